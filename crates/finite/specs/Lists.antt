@@ -1,0 +1,20 @@
+-- Lists made by index, and all lists of a length over the numbers from 1 to n.
+use Prim.Native.Nat.{ℕ, zero, suc, _*_, _+_}
+use mathlib.Core.Bool.{Bool}
+use mathlib.Core.List.{List, [], _∷_, _++_}
+use lib.ListN.{getD}
+use Rattle.finite.specs.Search.{anyBelow}
+
+-- f 0, .., f (n - 1)
+unfoldable pub tabulate : ℕ → (ℕ → ℕ) → List ℕ
+tabulate zero f = []
+tabulate (suc k) f = tabulate k f ++ (f k ∷ [])
+
+-- some list of m numbers from 1 to n passes
+unfoldable pub someList : ℕ → ℕ → (List ℕ → Bool) → Bool
+someList n zero t = t []
+someList n (suc m) t = anyBelow n (λ i. someList n m (λ y. t (suc i ∷ y)))
+
+-- the two bytes at i, high byte first, as a number
+unfoldable pub wordAt : List ℕ → ℕ → ℕ
+wordAt xs i = 256 * getD xs i 0 + getD xs (i + 1) 0

@@ -1,0 +1,12 @@
+pub mod Limits
+pub mod Instance
+pub mod Sheet
+pub mod Contents
+pub mod Fairness
+pub mod Prices
+pub mod Algorithm
+pub mod Refusals
+pub mod Replies
+pub mod Verdicts
+pub mod Book
+pub mod Promises

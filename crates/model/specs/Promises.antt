@@ -1,0 +1,123 @@
+-- What each public call promises, refused or not. In each record plain names are the lists as handed in, and primed ones the same memory when
+-- the call returns. `sheet_refusal` promises `r ≡ sheetRefusal sheet`, and the price check, which lends nothing, `PricesChecked`.
+use Prim.Native.Nat.{ℕ, _<_, _-_}
+use mathlib.Core.Bool.{Bool, true, false, cond}
+use mathlib.Core.List.{List, []}
+use mathlib.Core.Path.{_≡_}
+use lib.Dec.{eqb}
+use lib.ListN.{length, getD, take, drop, replicate}
+use Rattle.model.specs.declared.ShareOut.{ShareOut}
+use Rattle.model.specs.declared.ListVerdict.{ListVerdict}
+use Rattle.model.specs.declared.PriceVerdict.{PriceVerdict}
+use Rattle.model.specs.declared.SheetResult.{SheetResult}
+use Rattle.model.specs.declared.SheetEntry.{SheetEntry}
+use Rattle.model.specs.declared.BookResult.{BookResult}
+use Rattle.model.specs.Instance.{ownerOf}
+use Rattle.model.specs.Sheet.{agentsOf, choresOf, asMarked, asRead}
+use Rattle.model.specs.Contents.{sheetCount, sheetOf}
+use Rattle.model.specs.Fairness.{ef1, dominates, isAllocation}
+use Rattle.model.specs.Algorithm.{State, Outcome, lacking, after, Ends}
+use Rattle.model.specs.Refusals.{allocateRefusal, lookupRefusal, bookRefusal}
+use Rattle.model.specs.Replies.{Reply, refused, shared, wasteful, accepted, shareOutReply, listReply, priceReply, sheetReply}
+use Rattle.model.specs.Verdicts.{listCheck, priceCheck}
+use Rattle.model.specs.Book.{takesSheet, sheetAnswer, longList, tallyOf}
+
+-- Demand 3: what holds of the state in which the share-out of a sheet that breaks no rule ends.
+pub record Demand3 (s : List ℕ) (final : State) : Type 0 where
+  -- it "runs Algorithm 1 to its end"
+  pub ends : Ends (asRead s) final
+  -- "cuts ≤ people - 1"
+  pub cuts : final .cuts < agentsOf s
+  -- "no step lacks its reel"
+  pub neverLacks : (k : ℕ) (x : State) → after (asRead s) k ≡ lacking x → ⊥
+  -- the list is m owners from 1 to n
+  pub allocation : isAllocation (asMarked s) (final .owners) ≡ true
+  -- "the list is EF1"
+  pub even : ef1 (asMarked s) (ownerOf (final .owners)) ≡ true
+  -- "no list of any kind dominates it"
+  pub undominated : (y : List ℕ) → isAllocation (asMarked s) y ≡ true → dominates (asMarked s) (ownerOf y) (ownerOf (final .owners)) ≡ false
+  -- "the price check accepts it with the returned prices"
+  pub passes : priceCheck s (final .owners) (final .prices) ≡ accepted
+
+-- The share-out of a sheet that is not refused.
+pub record SharedOut (s owners prices scratch owners′ prices′ scratch′ : List ℕ) (r : ShareOut) : Type 0 where
+  pub final : State
+  pub demand3 : Demand3 s final
+  pub answer : shareOutReply r ≡ shared (final .moves) (final .cuts)
+  -- "the first m entries of a result list are written and the rest keep theirs"
+  pub ownersWritten : take (choresOf s) owners′ ≡ final .owners
+  pub ownersKept : drop (choresOf s) owners′ ≡ drop (choresOf s) owners
+  pub pricesWritten : take (choresOf s) prices′ ≡ final .prices
+  pub pricesKept : drop (choresOf s) prices′ ≡ drop (choresOf s) prices
+  -- "the whole of the lent scratch ends as zeros"
+  pub zeros : scratch′ ≡ replicate (length scratch) 0
+
+-- A refused share-out. "The number is all that is returned, and lent memory keeps its content."
+pub record NotShared (k : ℕ) (owners prices scratch owners′ prices′ scratch′ : List ℕ) (r : ShareOut) : Type 0 where
+  pub answer : shareOutReply r ≡ refused k
+  pub ownersKept : owners′ ≡ owners
+  pub pricesKept : prices′ ≡ prices
+  pub scratchKept : scratch′ ≡ scratch
+
+-- The share-out: `allocate(sheet, owners, prices, scratch)`.
+pub record Allocated (s owners prices scratch owners′ prices′ scratch′ : List ℕ) (r : ShareOut) : Type 0 where
+  pub notRefused : allocateRefusal s (length owners) (length prices) (length scratch) ≡ 0 → SharedOut s owners prices scratch owners′ prices′ scratch′ r
+  pub turnedDown :
+      (allocateRefusal s (length owners) (length prices) (length scratch) ≡ 0 → ⊥)
+      → NotShared (allocateRefusal s (length owners) (length prices) (length scratch)) owners prices scratch owners′ prices′ scratch′ r
+
+-- The list written with `wasteful`. It is free but for this: m owners from 1 to n, and it dominates the list handed in.
+pub record Dominating (s owners lent lent′ : List ℕ) : Type 0 where
+  pub allocation : isAllocation (asMarked s) (take (choresOf s) lent′) ≡ true
+  pub dominating : dominates (asMarked s) (ownerOf (take (choresOf s) lent′)) (ownerOf owners) ≡ true
+  pub kept : drop (choresOf s) lent′ ≡ drop (choresOf s) lent
+
+-- The list check: `check_list(sheet, owners, dominating)`. "The list check writes its result list only with `wasteful`".
+pub record ListChecked (s owners lent lent′ : List ℕ) (r : ListVerdict) : Type 0 where
+  pub answer : listReply r ≡ listCheck s owners (length lent)
+  pub shown : listCheck s owners (length lent) ≡ wasteful → Dominating s owners lent lent′
+  pub kept : (listCheck s owners (length lent) ≡ wasteful → ⊥) → lent′ ≡ lent
+
+-- The price check: `check_prices(sheet, owners, prices)`.
+pub record PricesChecked (s owners prices : List ℕ) (r : PriceVerdict) : Type 0 where
+  pub answer : priceReply r ≡ priceCheck s owners prices
+
+-- The lookup of a sheet by its number: the part of the book that is handed back, no bytes where the lookup is refused.
+unfoldable pub lookup : List ℕ → ℕ → List ℕ
+lookup book number = cond (eqb (lookupRefusal book number) 0) (sheetOf book (number - 1)) []
+
+-- the entry of the results that belongs to sheet j, counted from 0
+unfoldable pub entryAt : BookResult → ℕ → Reply
+entryAt r j = sheetReply (getD (r .sheets) j (record { result = SheetResult.Refused 9 }) .result)
+
+-- The share-out of a book that is not refused.
+pub record BookSharedOut (book owners prices scratch owners′ prices′ scratch′ : List ℕ) (r : BookResult) : Type 0 where
+  -- each accepted sheet's share-out meets demand 3
+  pub finals : ℕ → State
+  pub demand3 : (j : ℕ) → j < sheetCount book → takesSheet book j ≡ true → Demand3 (sheetOf book j) (finals j)
+  pub refusal : r .refusal ≡ 0
+  pub count : r .count ≡ sheetCount book
+  pub answers : (j : ℕ) → entryAt r j ≡ sheetAnswer book finals j
+  pub moves : r .tally .moves ≡ tallyOf book finals (λ x. x .moves)
+  pub cuts : r .tally .cuts ≡ tallyOf book finals (λ x. x .cuts)
+  pub ownersAtExit : owners′ ≡ longList book finals (λ x. x .owners) owners
+  pub pricesAtExit : prices′ ≡ longList book finals (λ x. x .prices) prices
+  pub zeros : scratch′ ≡ replicate (length scratch) 0
+
+-- A refused book.
+pub record BookNotShared (k : ℕ) (owners prices scratch owners′ prices′ scratch′ : List ℕ) (r : BookResult) : Type 0 where
+  pub refusal : r .refusal ≡ k
+  pub count : r .count ≡ 0
+  pub answers : (j : ℕ) → entryAt r j ≡ refused 9
+  pub moves : r .tally .moves ≡ 0
+  pub cuts : r .tally .cuts ≡ 0
+  pub ownersKept : owners′ ≡ owners
+  pub pricesKept : prices′ ≡ prices
+  pub scratchKept : scratch′ ≡ scratch
+
+-- The whole book: `allocate_book(book, owners, prices, scratch)`.
+pub record BookAllocated (book owners prices scratch owners′ prices′ scratch′ : List ℕ) (r : BookResult) : Type 0 where
+  pub notRefused : bookRefusal book (length owners) (length prices) (length scratch) ≡ 0 → BookSharedOut book owners prices scratch owners′ prices′ scratch′ r
+  pub turnedDown :
+      (bookRefusal book (length owners) (length prices) (length scratch) ≡ 0 → ⊥)
+      → BookNotShared (bookRefusal book (length owners) (length prices) (length scratch)) owners prices scratch owners′ prices′ scratch′ r

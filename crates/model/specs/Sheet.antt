@@ -1,0 +1,65 @@
+-- Document 01, "The sheet": its bytes, and the two readings of its marks.
+use Prim.Native.Nat.{ℕ, _+_, _*_}
+use mathlib.Core.Bool.{Bool, _||_}
+use mathlib.Core.List.{List}
+use lib.Dec.{eqb}
+use lib.ListN.{getD}
+use Rattle.finite.specs.Search.{allBelow}
+use Rattle.finite.specs.Lists.{wordAt}
+use Rattle.model.specs.Instance.{Instance}
+
+-- "Byte 0 is the number of people n"
+unfoldable pub agentsOf : List ℕ → ℕ
+agentsOf s = getD s 0 0
+
+-- "Byte 1 is the number of reels m"
+unfoldable pub choresOf : List ℕ → ℕ
+choresOf s = getD s 1 0
+
+-- "Bytes 2 and 3 are the easy weight a .. high byte first"
+unfoldable pub easyWeight : List ℕ → ℕ
+easyWeight s = wordAt s 2
+
+-- "bytes 4 and 5 the difficult weight b, high byte first"
+unfoldable pub difficultWeight : List ℕ → ℕ
+difficultWeight s = wordAt s 4
+
+-- "Then n rows of m marks, person by person"
+unfoldable pub markAt : List ℕ → ℕ → ℕ → ℕ
+markAt s i c = getD s (6 + i * choresOf s + c) 0
+
+-- "`e` (hexadecimal 65)"
+abbrev pub easyMark : ℕ
+easyMark = 0x65
+
+-- "`d` (hexadecimal 64)"
+abbrev pub difficultMark : ℕ
+difficultMark = 0x64
+
+-- agent i marked chore c easy
+unfoldable pub marksEasy : List ℕ → ℕ → ℕ → Bool
+marksEasy s i c = eqb (markAt s i c) easyMark
+
+-- "The length is 6 + n × m"
+unfoldable pub sheetLength : List ℕ → ℕ
+sheetLength s = 6 + agentsOf s * choresOf s
+
+-- agent i's row holds difficult marks only
+unfoldable pub allDifficult : List ℕ → ℕ → Bool
+allDifficult s i = allBelow (choresOf s) (λ c. eqb (markAt s i c) difficultMark)
+
+-- costs as marked: what evenness, waste and both checks go by
+unfoldable pub asMarked : List ℕ → Instance
+asMarked s =
+    record { n = agentsOf s; m = choresOf s; a = easyWeight s; b = difficultWeight s; easy = marksEasy s }
+
+-- "A row of difficult marks only is read as all easy in the share-out."
+unfoldable pub asRead : List ℕ → Instance
+asRead s =
+    record {
+      n = agentsOf s;
+      m = choresOf s;
+      a = easyWeight s;
+      b = difficultWeight s;
+      easy = λ i c. marksEasy s i c || allDifficult s i;
+    }

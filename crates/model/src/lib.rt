@@ -1,0 +1,48 @@
+// The answers of the public calls. What each of them says is defined in specs/.
+
+// The share-out of one sheet.
+pub enum ShareOut {
+    Refused(u8),
+    Shared { moves: u64, cuts: u8 },
+}
+
+// The list check. With `Wasteful` a dominating list is in the lent list.
+pub enum ListVerdict {
+    Refused(u8),
+    Holds,
+    Unfair(u8, u8),
+    Wasteful,
+}
+
+// The price check.
+pub enum PriceVerdict {
+    Refused(u8),
+    OffPrice(u16),
+    PriceEnvy(u8, u8),
+    Accepted,
+}
+
+// One sheet of a book: refused, or shared out from entry `first` of the long lists on.
+pub enum SheetResult {
+    Refused(u8),
+    Shared { moves: u64, cuts: u8, first: usize },
+}
+
+// An array of enums as a field is not covered by the borrow checker, an array of structs is.
+pub struct SheetEntry {
+    pub result: SheetResult,
+}
+
+// The running tally of moves and cuts.
+pub struct Tally {
+    pub moves: u64,
+    pub cuts: u64,
+}
+
+// A whole book: its refusal number, or 0 and its sheets' results.
+pub struct BookResult {
+    pub refusal: u8,
+    pub count: u8,
+    pub sheets: [SheetEntry; 16],
+    pub tally: Tally,
+}
