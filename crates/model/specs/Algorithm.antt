@@ -1,7 +1,7 @@
 -- Document 01, "The share-out, step by step": Algorithm 1 as a machine that takes one small step at a time. A run ends when some number of
 -- steps ends it; no limit is set on that number.
 use Prim.Native.Nat.{ℕ, zero, suc, _+_, _*_, _/_, _-_}
-use mathlib.Core.Bool.{Bool, cond, not, _&&_, _||_}
+use mathlib.Core.Bool.{Bool, cond, not, _&&_}
 use mathlib.Core.List.{List}
 use mathlib.Core.Path.{_≡_}
 use lib.Dec.{eqb, ltb}
@@ -9,6 +9,7 @@ use lib.ListN.{getD, set, replicate}
 use Rattle.finite.specs.Sums.{minTo}
 use Rattle.finite.specs.Search.{anyBelow, firstBelow, chosen}
 use Rattle.finite.specs.Lists.{tabulate}
+use Rattle.finite.specs.Reach.{reach}
 use Rattle.model.specs.Instance.{Instance, ownerOf, priceOf}
 use Rattle.model.specs.Fairness.{owns}
 use Rattle.model.specs.Prices.{best, priceSum, priceUpToOne}
@@ -127,11 +128,14 @@ module _ (I : Instance) where
     unfoldable pub supplies : ℕ → ℕ → Bool
     supplies i j = anyBelow (I .m) (λ c. has i c && wants j c)
 
-    -- 2b: agent i has a distance of t or less. "Take everyone whose price sum is the least. They are at distance 0; whoever owns a best reel
-    -- of somebody at distance t, and has no smaller distance, is at t+1."
+    -- 2b: "Take everyone whose price sum is the least."
+    unfoldable pub ofLeastSum : ℕ → Bool
+    ofLeastSum i = eqb (sum i) leastSum
+
+    -- 2b: agent i has a distance of t or less. "They are at distance 0; whoever owns a best reel of somebody at distance t, and has no smaller
+    -- distance, is at t+1."
     unfoldable pub within : ℕ → ℕ → Bool
-    within zero i = eqb (sum i) leastSum
-    within (suc t) i = within t i || anyBelow (I .n) (λ j. within t j && supplies i j)
+    within t i = reach (I .n) ofLeastSum supplies t i
 
     -- 2b: agent i is in the ring at distance t
     unfoldable pub atDistance : ℕ → ℕ → Bool

@@ -46,3 +46,20 @@ pub struct BookResult {
     pub sheets: [SheetEntry; 16],
     pub tally: Tally,
 }
+
+// Document 01's limits, in the code's types; specs/Limits.antt has the same numbers.
+pub const MAX_AGENTS: usize = 32;
+
+pub const MAX_CHORES: usize = 200;
+
+pub const MAX_WEIGHT: u32 = 1000;
+
+pub const MAX_PRICE: u32 = 1000000;
+
+pub const SCRATCH_SIZE: usize = 1024;
+
+pub const MAX_SHEETS: usize = 16;
+
+pub const MAX_BOOK: usize = 65535;
+
+pub const BOOK_ENTRIES: usize = 3200;
