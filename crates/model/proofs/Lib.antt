@@ -1,0 +1,3 @@
+pub mod Unique
+pub mod Cases
+pub mod Starred
