@@ -12,7 +12,9 @@ use Rattle.model.specs.Instance.{cost, ownerOf, priceOf}
 use Rattle.model.specs.Sheet.{agentsOf, choresOf, easyWeight, difficultWeight, markAt, marksEasy, sheetLength, allDifficult, asMarked, asRead}
 use Rattle.model.specs.Fairness.{owns, holdsAny, total, costTo, costWithout, fair, ef1, dominates, ownersInRange, dominated}
 use Rattle.model.specs.Prices.{ratioAtMost, best, dearest, priceUpToOne}
-use Rattle.model.specs.Algorithm.{openingOwner, openingPrice, opening, has, sum, upToOne, wants, group, isEntitled, giver2a, receiver2a, due2a, chore2a, action2a, leastSum, above, supplies, ofLeastSum, within, atDistance, ring2b, due2b, giver2b, receiver2b, chore2b, action2b, action, handed, passed, reachable, isCut, afterCut, result, step, next, after}
+use Rattle.model.specs.Step2a.{giver2a, receiver2a, due2a, chore2a}
+use Rattle.model.specs.Step2b.{leastSum, above, supplies, ofLeastSum, within, reachable, atDistance, ring2b, due2b, giver2b, receiver2b, chore2b}
+use Rattle.model.specs.Algorithm.{openingOwner, openingPrice, opening, group, isEntitled, action2a, action2b, action, handed, passed, inNewGroup, afterCut, result, step, next, after}
 use Rattle.model.specs.Refusals.{_orElse_, isMark, sheetRefusal, ownersRefusal, pricesInRange, pricesRefusal, lentRefusal, listRefusal, priceRefusal}
 use Rattle.model.specs.Replies.{holds, unfair, wasteful, offPrice, accepted}
 use Rattle.model.specs.Verdicts.{firstOfPair, secondOfPair, unlessRefused, envies, listVerdict, firstOffPrice, enviesByPrice, priceVerdict, listCheck, priceCheck}
@@ -65,7 +67,7 @@ table =
     ∷ []
 
 pub starred : MeetsAll table
-unfolding table sheetC sheetD sheetE tooMany sheet marks allMarks firstRow Meets MeetsAll Computed ComputedAll seen sumTo maxTo minTo sumWhere maxWhere anyBelow allBelow firstStep firstBelow chosen tabulate someList wordAt reach cost ownerOf priceOf agentsOf choresOf easyWeight difficultWeight markAt marksEasy sheetLength allDifficult asMarked asRead owns holdsAny total costTo costWithout fair ef1 dominates ownersInRange dominated ratioAtMost best dearest priceUpToOne openingOwner openingPrice opening has sum upToOne wants group isEntitled giver2a receiver2a due2a chore2a action2a leastSum above supplies ofLeastSum within atDistance ring2b due2b giver2b receiver2b chore2b action2b action handed passed reachable isCut afterCut result step next after _orElse_ isMark sheetRefusal ownersRefusal pricesInRange pricesRefusal lentRefusal listRefusal priceRefusal firstOfPair secondOfPair unlessRefused envies listVerdict firstOffPrice enviesByPrice priceVerdict listCheck priceCheck
+unfolding table sheetC sheetD sheetE tooMany sheet marks allMarks firstRow Meets MeetsAll Computed ComputedAll seen sumTo maxTo minTo sumWhere maxWhere anyBelow allBelow firstStep firstBelow chosen tabulate someList wordAt reach cost ownerOf priceOf agentsOf choresOf easyWeight difficultWeight markAt marksEasy sheetLength allDifficult asMarked asRead owns holdsAny total costTo costWithout fair ef1 dominates ownersInRange dominated ratioAtMost best dearest priceUpToOne openingOwner openingPrice opening group isEntitled giver2a receiver2a due2a chore2a action2a leastSum above supplies ofLeastSum within reachable atDistance ring2b due2b giver2b receiver2b chore2b action2b action handed passed inNewGroup afterCut result step next after _orElse_ isMark sheetRefusal ownersRefusal pricesInRange pricesRefusal lentRefusal listRefusal priceRefusal firstOfPair secondOfPair unlessRefused envies listVerdict firstOffPrice enviesByPrice priceVerdict listCheck priceCheck
 starred =
     met-all 16 table
     (refl, (refl, (refl, (refl, (refl, (refl, (refl, (refl, (refl, (refl, (refl, (refl, (refl, (refl, (refl, (refl, (refl, (refl, (refl, (refl, tt))))))))))))))))))))

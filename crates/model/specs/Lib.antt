@@ -4,6 +4,8 @@ pub mod Sheet
 pub mod Contents
 pub mod Fairness
 pub mod Prices
+pub mod Step2a
+pub mod Step2b
 pub mod Algorithm
 pub mod Refusals
 pub mod Replies

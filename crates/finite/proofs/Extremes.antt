@@ -1,0 +1,252 @@
+-- Laws of the greatest and the least value over the numbers below a bound.
+use Prim.Native.Nat.{ℕ, zero, suc, _+_, _*_, _≤_, _<_, min, max}
+use mathlib.Core.Bool.{Bool, true, false, cond}
+use mathlib.Core.Path.{_≡_, refl, sym, ap, ap₂, _∙_}
+use native.Mathlib.Nat.{le-refl, le-antisymm, mul-zero, mul-le-mul-left, max-eq-left, max-eq-right, min-eq-left, min-eq-right, le-of-lt}
+use native.Mathlib.Numerals.{add-one}
+use native.Mathlib.Omega.{arith}
+use borrow.Author.Count.{below-more}
+use Rattle.finite.specs.Sums.{maxTo, maxWhere, minTo}
+use Rattle.finite.proofs.Tests.{by-test, cond-cong, cond-mono, cond-le, cond-scale, clash}
+use Rattle.finite.proofs.Below.{none-below, by-top, lower, by-less}
+
+-- l is the greatest of f 0 .. f (n - 1)
+pub record Top (n : ℕ) (f : ℕ → ℕ) (l : ℕ) : Type 0 where
+  pub index : ℕ
+  pub below : index < n
+  pub value : f index ≡ l
+  pub above : (i : ℕ) → i < n → f i ≤ l
+
+-- l is the greatest f among those below n that pass
+pub record Peak (n : ℕ) (t : ℕ → Bool) (f : ℕ → ℕ) (l : ℕ) : Type 0 where
+  pub index : ℕ
+  pub below : index < n
+  pub passes : t index ≡ true
+  pub value : f index ≡ l
+  pub above : (i : ℕ) → i < n → t i ≡ true → f i ≤ l
+
+-- l is the least of f 0 .. f (n - 1)
+pub record Low (n : ℕ) (f : ℕ → ℕ) (l : ℕ) : Type 0 where
+  pub index : ℕ
+  pub below : index < n
+  pub value : f index ≡ l
+  pub under : (i : ℕ) → i < n → l ≤ f i
+
+-- maxTo
+
+pub top-zero : (f : ℕ → ℕ) → maxTo 0 f ≡ 0
+unfolding maxTo
+top-zero f = refl
+
+pub top-next : (k : ℕ) (f : ℕ → ℕ) → maxTo (k + 1) f ≡ max (maxTo k f) (f k)
+unfolding maxTo
+top-next k f = ap (λ n. maxTo n f) (add-one k)
+
+pub top-keep : (k : ℕ) (f : ℕ → ℕ) → f k ≤ maxTo k f → maxTo (k + 1) f ≡ maxTo k f
+top-keep k f l = rw top-next (max-eq-left l)
+
+pub top-raise : (k : ℕ) (f : ℕ → ℕ) → maxTo k f ≤ f k → maxTo (k + 1) f ≡ f k
+top-raise k f l = rw top-next (max-eq-right l)
+
+pub top-above : {n : ℕ} (f : ℕ → ℕ) (i : ℕ) → i < n → f i ≤ maxTo n f
+unfolding maxTo
+top-above {n = zero} f i l = none-below l
+top-above {n = suc k} f i l = by-top l (λ e. rw e (omega arith)) (λ l′. omega (arith, top-above f i l′))
+
+pub top-at-most : (n : ℕ) {b : ℕ} {f : ℕ → ℕ} → ((i : ℕ) → i < n → f i ≤ b) → maxTo n f ≤ b
+unfolding maxTo
+top-at-most zero h = omega arith
+top-at-most (suc k) h = omega (arith, top-at-most k (lower h), h k (le-refl _))
+
+pub top-attained : {n : ℕ} (f : ℕ → ℕ) → 0 < n → Top n f (maxTo n f)
+unfolding maxTo
+top-attained {n = zero} f l = none-below l
+top-attained {n = suc zero} f l = record { index = 0; below = l; value = omega arith; above = top-above f }
+top-attained {n = suc (suc k)} f l =
+    let r = top-attained {n = suc k} f (omega arith) in
+    by-less (maxTo (suc k) f) (f (suc k))
+    (λ s. record { index = suc k; below = le-refl _; value = omega arith; above = top-above f })
+    (λ s. record { index = r .index; below = omega arith; value = omega (arith, r .value); above = top-above f })
+
+pub top-unique : {n : ℕ} {f : ℕ → ℕ} {l : ℕ} → Top n f l → l ≡ maxTo n f
+top-unique {n} {f} r = le-antisymm (omega (arith, top-above f (r .index) (r .below))) (top-at-most n (r .above))
+
+pub top-cong : (n : ℕ) {f g : ℕ → ℕ} → ((i : ℕ) → i < n → f i ≡ g i) → maxTo n f ≡ maxTo n g
+unfolding maxTo
+top-cong zero h = refl
+top-cong (suc k) h = ap₂ max (top-cong k (lower h)) (h k (le-refl _))
+
+pub top-mono : (n : ℕ) {f g : ℕ → ℕ} → ((i : ℕ) → i < n → f i ≤ g i) → maxTo n f ≤ maxTo n g
+unfolding maxTo
+top-mono zero h = le-refl 0
+top-mono (suc k) h = omega (arith, top-mono k (lower h), h k (le-refl _))
+
+pub mul-max : (k a b : ℕ) → k * max a b ≡ max (k * a) (k * b)
+mul-max k a b =
+    by-less a b (λ l. let h = mul-le-mul-left k (le-of-lt l) in rw (max-eq-right (le-of-lt l)) (sym (max-eq-right h)))
+    (λ l. let h = mul-le-mul-left k l in rw (max-eq-left l) (sym (max-eq-left h)))
+
+pub top-scale : (n k : ℕ) (f : ℕ → ℕ) → k * maxTo n f ≡ maxTo n (λ i. k * f i)
+unfolding maxTo
+top-scale zero k f = mul-zero k
+top-scale (suc j) k f = mul-max k (maxTo j f) (f j) ∙ ap (λ v. max v (k * f j)) (top-scale j k f)
+
+pub top-grow : {n m : ℕ} (f : ℕ → ℕ) → n ≤ m → maxTo n f ≤ maxTo m f
+top-grow {n} f l = top-at-most n (λ i h. top-above f i (omega arith))
+
+-- maxWhere
+
+pub peak-zero : (t : ℕ → Bool) (f : ℕ → ℕ) → maxWhere 0 t f ≡ 0
+unfolding maxWhere maxTo
+peak-zero t f = refl
+
+pub peak-next : (k : ℕ) (t : ℕ → Bool) (f : ℕ → ℕ) → maxWhere (k + 1) t f ≡ max (maxWhere k t f) (cond (t k) (f k) 0)
+unfolding maxWhere
+peak-next k t f = top-next k (λ i. cond (t i) (f i) 0)
+
+pub peak-hit : (k : ℕ) (t : ℕ → Bool) (f : ℕ → ℕ) → t k ≡ true → maxWhere (k + 1) t f ≡ max (maxWhere k t f) (f k)
+peak-hit k t f h = rw (peak-next, h)
+
+pub peak-miss : (k : ℕ) (t : ℕ → Bool) (f : ℕ → ℕ) → t k ≡ false → maxWhere (k + 1) t f ≡ maxWhere k t f
+peak-miss k t f h = rw (peak-next, h) (omega arith)
+
+-- a passing value that is not greater
+pub peak-keep : (k : ℕ) (t : ℕ → Bool) (f : ℕ → ℕ) → (t k ≡ true → f k ≤ maxWhere k t f) → maxWhere (k + 1) t f ≡ maxWhere k t f
+peak-keep k t f l = rw peak-next (omega (arith, cond-le (t k) {x = f k} {y = 0} {z = maxWhere k t f} l (λ _. omega arith)))
+
+pub peak-raise : (k : ℕ) (t : ℕ → Bool) (f : ℕ → ℕ) → t k ≡ true → maxWhere k t f ≤ f k → maxWhere (k + 1) t f ≡ f k
+peak-raise k t f h l = rw (peak-next, h) (max-eq-right l)
+
+pub peak-above : {n : ℕ} (t : ℕ → Bool) (f : ℕ → ℕ) (i : ℕ) → i < n → t i ≡ true → f i ≤ maxWhere n t f
+unfolding maxWhere
+peak-above t f i l p = rw p at (top-above (λ i. cond (t i) (f i) 0) i l)
+
+pub peak-at-most : (n : ℕ) (t : ℕ → Bool) {b : ℕ} {f : ℕ → ℕ} → ((i : ℕ) → i < n → t i ≡ true → f i ≤ b) → maxWhere n t f ≤ b
+unfolding maxWhere
+peak-at-most n t h = top-at-most n (λ i l. cond-le (t i) (h i l) (λ _. omega arith))
+
+pub peak-none : (n : ℕ) (t : ℕ → Bool) (f : ℕ → ℕ) → ((i : ℕ) → i < n → t i ≡ false) → maxWhere n t f ≡ 0
+peak-none n t f h = omega (arith, peak-at-most n t {b = 0} {f = f} (λ i l p. absurd (clash p (h i l))))
+
+-- something passes: one that passes attains it
+pub peak-attained : {n : ℕ} (t : ℕ → Bool) (f : ℕ → ℕ) (k : ℕ) → k < n → t k ≡ true → Peak n t f (maxWhere n t f)
+unfolding maxWhere
+peak-attained {n} t f k l p =
+    let r = top-attained {n = n} (λ i. cond (t i) (f i) 0) (omega arith) in
+    let q = r .value in
+    by-test (t (r .index))
+    (λ h. record { index = r .index; below = r .below; passes = h; value = rw h at q; above = peak-above t f })
+    (λ h. let z : 0 ≡ maxTo n (λ i. cond (t i) (f i) 0) = rw h at q in
+    let b : f k ≤ maxTo n (λ i. cond (t i) (f i) 0) = peak-above t f k l p in
+    record { index = k; below = l; passes = p; value = omega arith; above = peak-above t f })
+
+pub peak-unique : {n : ℕ} {t : ℕ → Bool} {f : ℕ → ℕ} {l : ℕ} → Peak n t f l → l ≡ maxWhere n t f
+peak-unique {n} {t} {f} r = le-antisymm (omega (arith, peak-above t f (r .index) (r .below) (r .passes))) (peak-at-most n t (r .above))
+
+pub peak-cong : (n : ℕ) {t u : ℕ → Bool} {f g : ℕ → ℕ} → ((i : ℕ) → i < n → t i ≡ u i) → ((i : ℕ) → i < n → u i ≡ true → f i ≡ g i) → maxWhere n t f ≡ maxWhere n u g
+unfolding maxWhere
+peak-cong n h e = top-cong n (λ i l. cond-cong (h i l) (e i l) (λ _. refl))
+
+pub peak-mono : (n : ℕ) (t u : ℕ → Bool) {f g : ℕ → ℕ} → ((i : ℕ) → i < n → t i ≡ true → u i ≡ true) → ((i : ℕ) → i < n → t i ≡ true → f i ≤ g i) → maxWhere n t f ≤ maxWhere n u g
+unfolding maxWhere
+peak-mono n t u h e = top-mono n (λ i l. cond-mono (t i) (u i) (h i l) (e i l))
+
+pub peak-scale : (n k : ℕ) (t : ℕ → Bool) (f : ℕ → ℕ) → k * maxWhere n t f ≡ maxWhere n t (λ i. k * f i)
+unfolding maxWhere
+peak-scale n k t f = top-scale n k (λ i. cond (t i) (f i) 0) ∙ top-cong n (λ i l. cond-scale k (t i) (f i))
+
+pub peak-le-top : (n : ℕ) (t : ℕ → Bool) (f : ℕ → ℕ) → maxWhere n t f ≤ maxTo n f
+peak-le-top n t f = peak-at-most n t (λ i l p. top-above f i l)
+
+-- minTo
+
+pub low-zero : (f : ℕ → ℕ) → minTo 0 f ≡ 0
+unfolding minTo
+low-zero f = refl
+
+pub low-one : (f : ℕ → ℕ) → minTo 1 f ≡ f 0
+unfolding minTo
+low-one f = refl
+
+pub low-next : {k : ℕ} (f : ℕ → ℕ) → 0 < k → minTo (k + 1) f ≡ min (minTo k f) (f k)
+unfolding minTo
+low-next {k = zero} f l = none-below l
+low-next {k = suc k} f l = ap (λ n. minTo n f) (add-one (suc k))
+
+pub low-keep : {k : ℕ} (f : ℕ → ℕ) → 0 < k → minTo k f ≤ f k → minTo (k + 1) f ≡ minTo k f
+low-keep f l h = low-next f l ∙ min-eq-left h
+
+pub low-drop : {k : ℕ} (f : ℕ → ℕ) → 0 < k → f k ≤ minTo k f → minTo (k + 1) f ≡ f k
+low-drop f l h = low-next f l ∙ min-eq-right h
+
+pub low-under : {n : ℕ} (f : ℕ → ℕ) (i : ℕ) → i < n → minTo n f ≤ f i
+unfolding minTo
+low-under {n = zero} f i l = none-below l
+low-under {n = suc zero} f i l = let e : i ≡ 0 = omega arith in rw e (le-refl _)
+low-under {n = suc (suc k)} f i l = by-top l (λ e. rw e (omega arith)) (λ l′. omega (arith, low-under f i l′))
+
+pub low-attained : {n : ℕ} (f : ℕ → ℕ) → 0 < n → Low n f (minTo n f)
+unfolding minTo
+low-attained {n = zero} f l = none-below l
+low-attained {n = suc zero} f l = record { index = 0; below = l; value = refl; under = low-under f }
+low-attained {n = suc (suc k)} f l =
+    let r = low-attained {n = suc k} f (omega arith) in
+    by-less (f (suc k)) (minTo (suc k) f)
+    (λ s. record { index = suc k; below = le-refl _; value = omega arith; under = low-under f })
+    (λ s. record { index = r .index; below = omega arith; value = omega (arith, r .value); under = low-under f })
+
+-- the greatest lower bound
+pub low-at-least : {n b : ℕ} {f : ℕ → ℕ} → 0 < n → ((i : ℕ) → i < n → b ≤ f i) → b ≤ minTo n f
+low-at-least {f = f} l h = let r = low-attained f l in omega (arith, h (r .index) (r .below), r .value)
+
+pub low-unique : {n : ℕ} {f : ℕ → ℕ} {l : ℕ} → Low n f l → l ≡ minTo n f
+low-unique {f = f} r = le-antisymm (low-at-least (omega arith) (r .under)) (omega (arith, low-under f (r .index) (r .below)))
+
+pub low-cong : (n : ℕ) {f g : ℕ → ℕ} → ((i : ℕ) → i < n → f i ≡ g i) → minTo n f ≡ minTo n g
+unfolding minTo
+low-cong zero h = refl
+low-cong (suc zero) h = h 0 (le-refl _)
+low-cong (suc (suc k)) h = ap₂ min (low-cong (suc k) (lower h)) (h (suc k) (le-refl _))
+
+pub low-mono : (n : ℕ) {f g : ℕ → ℕ} → ((i : ℕ) → i < n → f i ≤ g i) → minTo n f ≤ minTo n g
+unfolding minTo
+low-mono zero h = le-refl 0
+low-mono (suc zero) h = h 0 (le-refl _)
+low-mono (suc (suc k)) h = omega (arith, low-mono (suc k) (lower h), h (suc k) (le-refl _))
+
+pub low-scale : (n k : ℕ) (f : ℕ → ℕ) → k * minTo n f ≡ minTo n (λ i. k * f i)
+unfolding minTo
+low-scale zero k f = mul-zero k
+low-scale (suc n) k f =
+    let r = low-attained {n = suc n} f (omega arith) in
+    low-unique
+    (record {
+      index = r .index;
+      below = r .below;
+      value = ap (λ v. k * v) (r .value);
+      under = λ i l. mul-le-mul-left k (low-under f i l);
+    })
+
+-- a running least: the first value, one that is not less, one that is not greater
+
+pub low-first : (f : ℕ → ℕ) → Low 1 f (f 0)
+unfolding minTo
+low-first f = low-attained f (le-refl 1)
+
+pub low-more : {k l : ℕ} {f : ℕ → ℕ} → Low k f l → l ≤ f k → Low (k + 1) f l
+low-more {k} {l} {f} r h =
+    record {
+      index = r .index;
+      below = omega arith;
+      value = r .value;
+      under = below-more (λ i. l ≤ f i) k (r .under) h;
+    }
+
+pub low-fall : {k l : ℕ} {f : ℕ → ℕ} → Low k f l → f k ≤ l → Low (k + 1) f (f k)
+low-fall {k} {l} {f} r h =
+    record {
+      index = k;
+      below = omega arith;
+      value = refl;
+      under = below-more (λ i. f k ≤ f i) k (λ i m. omega (arith, r .under i m)) (le-refl _);
+    }

@@ -1,0 +1,12 @@
+pub mod Tests
+pub mod Below
+pub mod Search
+pub mod Sums
+pub mod Where
+pub mod Counts
+pub mod Fibres
+pub mod Lists
+pub mod Extremes
+pub mod Chosen
+pub mod Running
+pub mod Reach

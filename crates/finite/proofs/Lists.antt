@@ -1,0 +1,164 @@
+-- Laws of lists made by index, of the search through all lists of a length, and of two-byte numbers.
+use Prim.Native.Nat.{ℕ, zero, suc, _+_, _≤_, _<_}
+use mathlib.Core.Bool.{Bool, true, false, cond}
+use mathlib.Core.List.{List, [], _∷_, _++_}
+use mathlib.Core.Path.{_≡_, refl, sym, ap, ap₂, _∙_}
+use native.Mathlib.Nat.{le-refl, le-of-eq}
+use native.Mathlib.Numerals.{add-one}
+use native.Mathlib.Omega.{arith}
+use lib.Dec.{eqb}
+use borrow.Author.Tests.{ne-eqb}
+use lib.ListN.{length, getD, take, set, replicate, length-append, length-set, length-replicate, getD-replicate, List·getD-append}
+use lib.Seq.{ext-getD, take-suc, take-suc-set, take-all, getD-take, getD-at, getD-set-same, getD-set-other, length-take-le}
+use Rattle.finite.specs.Lists.{tabulate, someList, wordAt}
+use Rattle.finite.proofs.Tests.{clash, bool-eq, fails-of, not-yes, cond-false, eqb-same}
+use Rattle.finite.proofs.Below.{none-below, by-top, lower, by-same}
+use Rattle.finite.proofs.Search.{any-intro, any-elim}
+
+-- tabulate
+
+pub tab-zero : (f : ℕ → ℕ) → tabulate 0 f ≡ []
+unfolding tabulate
+tab-zero f = refl
+
+pub tab-next : (k : ℕ) (f : ℕ → ℕ) → tabulate (k + 1) f ≡ tabulate k f ++ (f k ∷ [])
+unfolding tabulate
+tab-next k f = ap (λ n. tabulate n f) (add-one k)
+
+pub tab-length : (n : ℕ) (f : ℕ → ℕ) → length (tabulate n f) ≡ n
+unfolding tabulate
+tab-length zero f = refl
+tab-length (suc k) f = rw (length-append, tab-length k f) (add-one k)
+
+pub tab-at : {n : ℕ} (f : ℕ → ℕ) (i d : ℕ) → i < n → getD (tabulate n f) i d ≡ f i
+unfolding tabulate
+tab-at {n = zero} f i d l = none-below l
+tab-at {n = suc k} f i d l =
+    by-top l
+    (λ e. rw e (getD-at (tabulate k f) (f k) [] d k (tab-length k f)))
+    (λ l′. List·getD-append (tabulate k f) (f k ∷ []) d i (rw (tab-length k f) l′) ∙ tab-at f i d l′)
+
+pub tab-cong : (n : ℕ) {f g : ℕ → ℕ} → ((c : ℕ) → c < n → f c ≡ g c) → tabulate n f ≡ tabulate n g
+unfolding tabulate
+tab-cong zero h = refl
+tab-cong (suc k) h = ap₂ (λ xs v. xs ++ (v ∷ [])) (tab-cong k (lower h)) (h k (le-refl _))
+
+-- a list is known by its length and entries
+pub tab-ext : (n : ℕ) (f : ℕ → ℕ) (xs : List ℕ) → length xs ≡ n → ((i : ℕ) → i < n → getD xs i 0 ≡ f i) → xs ≡ tabulate n f
+tab-ext n f xs e h =
+    ext-getD 0 xs (tabulate n f) (e ∙ sym (tab-length n f)) (λ i l. let l′ : i < n = rw e at l in h i l′ ∙ sym (tab-at f i 0 l′))
+
+pub tab-self : (xs : List ℕ) → xs ≡ tabulate (length xs) (λ i. getD xs i 0)
+tab-self xs = tab-ext (length xs) (λ i. getD xs i 0) xs refl (λ i l. refl)
+
+pub tab-const : (n v : ℕ) → replicate n v ≡ tabulate n (λ i. v)
+tab-const n v = tab-ext n (λ i. v) (replicate n v) (length-replicate n v) (λ i l. getD-replicate n i v 0 l)
+
+pub tab-set : {n : ℕ} (f : ℕ → ℕ) (k v : ℕ) → k < n → set (tabulate n f) k v ≡ tabulate n (λ i. cond (eqb i k) v (f i))
+tab-set {n} f k v l =
+    tab-ext n (λ i. cond (eqb i k) v (f i)) (set (tabulate n f) k v) (length-set (tabulate n f) k v ∙ tab-length n f) λ i m.
+    by-same i k
+    (λ e. rw (e, eqb-same k) (getD-set-same (tabulate n f) k v 0 (rw (tab-length n f) l)))
+    (λ ne. getD-set-other (tabulate n f) k i v 0 ne ∙ tab-at f i 0 m ∙ sym (cond-false v (f i) (ne-eqb i k ne)))
+
+pub tab-take : {n m : ℕ} (f : ℕ → ℕ) → n ≤ m → take n (tabulate m f) ≡ tabulate n f
+tab-take {n} {m} f l =
+    tab-ext n f (take n (tabulate m f)) (length-take-le n (tabulate m f) (rw (tab-length m f) l))
+    (λ i k. getD-take n (tabulate m f) i 0 k ∙ tab-at f i 0 (omega arith))
+
+-- a list filled from the front: its first k entries are f's
+
+pub fill-zero : (f : ℕ → ℕ) (xs : List ℕ) → take 0 xs ≡ tabulate 0 f
+unfolding tabulate
+fill-zero f xs = refl
+
+pub fill-next : {k v : ℕ} (f : ℕ → ℕ) (xs : List ℕ) → k < length xs → v ≡ f k → take k xs ≡ tabulate k f → take (k + 1) (set xs k v) ≡ tabulate (k + 1) f
+fill-next {k} {v} f xs l e h = rw (add-one k, take-suc-set xs k v l, h, e) (sym (tab-next k f) ∙ ap (λ n. tabulate n f) (add-one k))
+
+-- an entry that is right already
+pub fill-keep : {k : ℕ} (f : ℕ → ℕ) (xs : List ℕ) → k < length xs → getD xs k 0 ≡ f k → take k xs ≡ tabulate k f → take (k + 1) xs ≡ tabulate (k + 1) f
+fill-keep {k} f xs l e h = rw (add-one k, take-suc xs k 0 l, h, e) (sym (tab-next k f) ∙ ap (λ n. tabulate n f) (add-one k))
+
+pub fill-done : {n : ℕ} (f : ℕ → ℕ) (xs : List ℕ) → length xs ≡ n → take n xs ≡ tabulate n f → xs ≡ tabulate n f
+fill-done {n} f xs e h = sym (take-all n xs (le-of-eq e)) ∙ h
+
+pub fill-at : {k : ℕ} (f : ℕ → ℕ) (xs : List ℕ) (i d : ℕ) → i < k → take k xs ≡ tabulate k f → getD xs i d ≡ f i
+fill-at {k} f xs i d l h = sym (getD-take k xs i d l) ∙ ap (λ ys. getD ys i d) h ∙ tab-at f i d l
+
+-- someList
+
+-- y has m entries, from 1 to n
+pub record Picks (n m : ℕ) (y : List ℕ) : Type 0 where
+  pub size : length y ≡ m
+  pub positive : (c : ℕ) → c < m → 0 < getD y c 0
+  pub bounded : (c : ℕ) → c < m → getD y c 0 ≤ n
+
+-- a list of m numbers from 1 to n that passes
+pub record SomePicks (n m : ℕ) (t : List ℕ → Bool) : Type 0 where
+  pub list : List ℕ
+  pub picks : Picks n m list
+  pub passes : t list ≡ true
+
+pub picks-nil : (n : ℕ) → Picks n 0 []
+picks-nil n = record { size = refl; positive = λ c l. none-below l; bounded = λ c l. none-below l }
+
+pub picks-cons : {n m : ℕ} {y : List ℕ} {i : ℕ} → i < n → Picks n m y → Picks n (suc m) (suc i ∷ y)
+picks-cons {n} {m} {y} {i} l p = record { size = ap suc (p .size); positive = low; bounded = high }
+  where
+    low : (c : ℕ) → c < suc m → 0 < getD (suc i ∷ y) c 0
+    low zero h = omega arith
+    low (suc c) h = p .positive c (omega arith)
+
+    high : (c : ℕ) → c < suc m → getD (suc i ∷ y) c 0 ≤ n
+    high zero h = l
+    high (suc c) h = p .bounded c (omega arith)
+
+pub picks-head : {n m : ℕ} {y : List ℕ} {i : ℕ} → Picks n (suc m) (suc i ∷ y) → i < n
+picks-head p = p .bounded 0 (omega arith)
+
+pub picks-tail : {n m x : ℕ} {y : List ℕ} → Picks n (suc m) (x ∷ y) → Picks n m y
+picks-tail p =
+    record {
+      size = omega (arith, p .size);
+      positive = λ c l. p .positive (suc c) (omega arith);
+      bounded = λ c l. p .bounded (suc c) (omega arith);
+    }
+
+pub list-elim : (n m : ℕ) (t : List ℕ → Bool) → someList n m t ≡ true → SomePicks n m t
+unfolding someList
+list-elim n zero t e = record { list = []; picks = picks-nil n; passes = e }
+list-elim n (suc m) t e =
+    let r = any-elim n (λ i. someList n m (λ y. t (suc i ∷ y))) e in
+    let s = list-elim n m (λ y. t (suc (r .index) ∷ y)) (r .passes) in
+    record { list = suc (r .index) ∷ s .list; picks = picks-cons (r .below) (s .picks); passes = s .passes }
+
+pub list-intro : {n m : ℕ} {y : List ℕ} (t : List ℕ → Bool) → Picks n m y → t y ≡ true → someList n m t ≡ true
+unfolding someList
+list-intro {m = zero} {y = []} t p e = e
+list-intro {m = zero} {y = x ∷ y} t p e = absurd (omega (arith, p .size))
+list-intro {m = suc m} {y = []} t p e = absurd (omega (arith, p .size))
+list-intro {m = suc m} {y = zero ∷ y} t p e = absurd (omega (arith, p .positive 0 (omega arith)))
+list-intro {n} {m = suc m} {y = suc i ∷ y} t p e =
+    any-intro (λ i. someList n m (λ y. t (suc i ∷ y))) i (picks-head p) (list-intro (λ y. t (suc i ∷ y)) (picks-tail p) e)
+
+-- none found: every such list fails
+pub list-none : {n m : ℕ} {y : List ℕ} (t : List ℕ → Bool) → someList n m t ≡ false → Picks n m y → t y ≡ false
+list-none t e p = fails-of (list-intro t p) e
+
+pub list-none-intro : (n m : ℕ) (t : List ℕ → Bool) → ((y : List ℕ) → Picks n m y → t y ≡ false) → someList n m t ≡ false
+list-none-intro n m t h = not-yes _ (λ e. let r = list-elim n m t e in clash (r .passes) (h (r .list) (r .picks)))
+
+pub list-cong : (n m : ℕ) (t u : List ℕ → Bool) → ((y : List ℕ) → Picks n m y → t y ≡ u y) → someList n m t ≡ someList n m u
+list-cong n m t u h =
+    bool-eq (λ e. let r = list-elim n m t e in list-intro u (r .picks) (sym (h (r .list) (r .picks)) ∙ r .passes))
+    (λ e. let r = list-elim n m u e in list-intro t (r .picks) (h (r .list) (r .picks) ∙ r .passes))
+
+-- wordAt
+
+pub word-bound : (xs : List ℕ) (i : ℕ) → getD xs i 0 < 256 → getD xs (i + 1) 0 < 256 → wordAt xs i < 65536
+unfolding wordAt
+word-bound xs i h l = omega arith
+
+pub word-cong : (xs ys : List ℕ) (i j : ℕ) → getD xs i 0 ≡ getD ys j 0 → getD xs (i + 1) 0 ≡ getD ys (j + 1) 0 → wordAt xs i ≡ wordAt ys j
+unfolding wordAt
+word-cong xs ys i j h l = omega arith

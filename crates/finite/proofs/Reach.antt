@@ -1,0 +1,127 @@
+-- Laws of reachability in rounds. (belongs to finite)
+use Prim.Native.Nat.{ℕ, zero, suc, _+_, _≤_, _<_}
+use mathlib.Core.Bool.{Bool, true, false, _&&_, _||_}
+use mathlib.Core.Path.{_≡_, refl, sym, ap, ap₂, _∙_}
+use native.Mathlib.Nat.{le-refl}
+use native.Mathlib.Numerals.{add-one}
+use native.Mathlib.Omega.{arith}
+use Rattle.finite.specs.Sums.{countTo}
+use Rattle.finite.specs.Search.{anyBelow}
+use Rattle.finite.specs.Reach.{reach}
+use Rattle.finite.proofs.Tests.{by-test, clash, bool-eq, and-elim, and-intro, or-cases, or-left, or-right}
+use Rattle.finite.proofs.Below.{by-less}
+use Rattle.finite.proofs.Search.{any-elim, any-intro, any-cong}
+use Rattle.finite.proofs.Counts.{count-le, count-strict}
+
+-- i is linked to a place that t rounds reach
+pub record Via (n : ℕ) (start : ℕ → Bool) (link : ℕ → ℕ → Bool) (t i : ℕ) : Type 0 where
+  pub next : ℕ
+  pub below : next < n
+  pub reached : reach n start link t next ≡ true
+  pub linked : link i next ≡ true
+
+module _ (n : ℕ) (start : ℕ → Bool) (link : ℕ → ℕ → Bool) where
+  pub reach-zero : (i : ℕ) → reach n start link 0 i ≡ start i
+  unfolding reach
+  reach-zero i = refl
+
+  pub reach-suc : (t i : ℕ) → reach n start link (suc t) i ≡ (reach n start link t i || anyBelow n (λ j. reach n start link t j && link i j))
+  unfolding reach
+  reach-suc t i = refl
+
+  pub reach-next : (t i : ℕ) → reach n start link (t + 1) i ≡ (reach n start link t i || anyBelow n (λ j. reach n start link t j && link i j))
+  unfolding reach
+  reach-next t i = ap (λ s. reach n start link s i) (add-one t)
+
+  -- what is reached stays reached
+  pub reach-kept : (t i : ℕ) → reach n start link t i ≡ true → reach n start link (suc t) i ≡ true
+  unfolding reach
+  reach-kept t i h = or-left (anyBelow n (λ j. reach n start link t j && link i j)) h
+
+  -- one link further
+  pub reach-step : (t i j : ℕ) → j < n → reach n start link t j ≡ true → link i j ≡ true → reach n start link (suc t) i ≡ true
+  unfolding reach
+  reach-step t i j l h k =
+      or-right (reach n start link t i) (any-intro (λ j. reach n start link t j && link i j) j l (and-intro h k))
+
+  -- a place reached in one more round was reached before, or is linked to one that was
+  pub reach-cases {ℓ} : {A : Type ℓ} (t i : ℕ) → reach n start link (suc t) i ≡ true → (reach n start link t i ≡ true → A) → (Via n start link t i → A) → A
+  unfolding reach
+  reach-cases t i e old new =
+      or-cases (reach n start link t i) (anyBelow n (λ j. reach n start link t j && link i j)) e old λ h.
+      let r = any-elim n (λ j. reach n start link t j && link i j) h in
+      let both = and-elim (reach n start link t (r .index)) (link i (r .index)) (r .passes) in
+      new (record { next = r .index; below = r .below; reached = both .0; linked = both .1 })
+
+  -- a place that one more round adds is linked to one reached before
+  pub reach-added : (t i : ℕ) → reach n start link (suc t) i ≡ true → reach n start link t i ≡ false → Via n start link t i
+  reach-added t i h k = reach-cases t i h (λ e. absurd (clash e k)) (λ v. v)
+
+  -- more rounds reach no less
+  pub reach-mono : {t u : ℕ} → t ≤ u → (i : ℕ) → reach n start link t i ≡ true → reach n start link u i ≡ true
+  reach-mono {t} {u = zero} l i h = let z : t ≡ 0 = omega arith in rw z at h
+  reach-mono {t} {u = suc v} l i h =
+      by-less v t
+      (λ g. let z : t ≡ suc v = omega arith in rw z at h)
+      (λ g. reach-kept v i (reach-mono g i h))
+
+  pub reach-start : (t i : ℕ) → start i ≡ true → reach n start link t i ≡ true
+  reach-start t i h = reach-mono {t = 0} {u = t} (omega arith) i (reach-zero i ∙ h)
+
+  -- the round that adds i comes after rounds that each added a place: t + 1 of them at least are reached
+  pub reach-grows : (t i : ℕ) → i < n → reach n start link (suc t) i ≡ true → reach n start link t i ≡ false → suc t ≤ countTo n (reach n start link (suc t))
+  reach-grows zero i l h k =
+      omega (arith, count-strict (reach n start link 0) (reach n start link 1) (λ c m. reach-kept 0 c) i l k h)
+  reach-grows (suc t) i l h k =
+      let v = reach-added (suc t) i h k in
+      let j = v .next in
+      by-test (reach n start link t j)
+      (λ e. absurd (clash (reach-step t i j (v .below) e (v .linked)) k))
+      (λ e. omega (arith, reach-grows t j (v .below) (v .reached) e, count-strict (reach n start link (suc t)) (reach n start link (suc (suc t))) (λ c m. reach-kept (suc t) c) i l k h))
+
+  -- after n rounds nothing more is added
+  pub reach-closed : (i : ℕ) → i < n → reach n start link (suc n) i ≡ true → reach n start link n i ≡ true
+  reach-closed i l h =
+      by-test (reach n start link n i) (λ e. e)
+      (λ e. absurd (omega (arith, reach-grows n i l h e, count-le n (reach n start link (suc n)))))
+
+  -- a place linked to one that n rounds reach is reached by them too
+  pub reach-link : (i j : ℕ) → i < n → j < n → reach n start link n j ≡ true → link i j ≡ true → reach n start link n i ≡ true
+  reach-link i j l k h e = reach-closed i l (reach-step n i j k h e)
+
+  -- a property of the starts that links carry holds wherever any number of rounds reaches
+  pub reach-ind {ℓ} : (P : ℕ → Type ℓ) → ((i : ℕ) → i < n → start i ≡ true → P i) → ((i j : ℕ) → i < n → j < n → P j → link i j ≡ true → P i) → (t i : ℕ) → i < n → reach n start link t i ≡ true → P i
+  unfolding reach
+  reach-ind P base carry zero i l h = base i l h
+  reach-ind P base carry (suc t) i l h =
+      reach-cases t i h (reach-ind P base carry t i l)
+      (λ v. carry i (v .next) l (v .below) (reach-ind P base carry t (v .next) (v .below) (v .reached)) (v .linked))
+
+  -- n rounds reach all that any number of rounds does
+  pub reach-all : (t i : ℕ) → i < n → reach n start link t i ≡ true → reach n start link n i ≡ true
+  reach-all = reach-ind (λ i. reach n start link n i ≡ true) (λ i l. reach-start n i) reach-link
+
+  -- a round that adds nothing is followed by none that does
+  pub reach-still : (t : ℕ) → ((i : ℕ) → i < n → reach n start link (suc t) i ≡ true → reach n start link t i ≡ true) → (u i : ℕ) → i < n → reach n start link u i ≡ true → reach n start link t i ≡ true
+  reach-still t still =
+      reach-ind (λ i. reach n start link t i ≡ true) (λ i l. reach-start t i)
+      (λ i j l k h e. still i l (reach-step t i j k h e))
+
+  pub reach-still-eq : (t : ℕ) → ((i : ℕ) → i < n → reach n start link (suc t) i ≡ true → reach n start link t i ≡ true) → (i : ℕ) → i < n → reach n start link t i ≡ reach n start link n i
+  reach-still-eq t still i l = bool-eq (reach-all t i l) (reach-still t still n i l)
+
+-- equal starts and links below n
+pub reach-cong : (n : ℕ) {start start′ : ℕ → Bool} {link link′ : ℕ → ℕ → Bool} → ((i : ℕ) → i < n → start i ≡ start′ i) → ((i j : ℕ) → i < n → j < n → link i j ≡ link′ i j) → (t i : ℕ) → i < n → reach n start link t i ≡ reach n start′ link′ t i
+unfolding reach
+reach-cong n e f zero i l = e i l
+reach-cong n e f (suc t) i l =
+    ap₂ _||_ (reach-cong n e f t i l) (any-cong n (λ j k. ap₂ _&&_ (reach-cong n e f t j k) (f i j l k)))
+
+-- more starts and more links reach no less
+pub reach-wider : (n : ℕ) (start start′ : ℕ → Bool) (link link′ : ℕ → ℕ → Bool) → ((i : ℕ) → i < n → start i ≡ true → start′ i ≡ true) → ((i j : ℕ) → i < n → j < n → link i j ≡ true → link′ i j ≡ true) → (t i : ℕ) → i < n → reach n start link t i ≡ true → reach n start′ link′ t i ≡ true
+unfolding reach
+reach-wider n s s′ k k′ e f zero i l h = e i l h
+reach-wider n s s′ k k′ e f (suc t) i l h =
+    reach-cases n s k t i h
+    (λ old. reach-kept n s′ k′ t i (reach-wider n s s′ k k′ e f t i l old))
+    (λ v. reach-step n s′ k′ t i (v .next) (v .below) (reach-wider n s s′ k k′ e f t (v .next) (v .below) (v .reached)) (f i (v .next) l (v .below) (v .linked)))

@@ -1,0 +1,155 @@
+-- Laws of Boolean tests: cases with the equation kept, and, or, not, cond.
+use Prim.Native.Nat.{ℕ, _*_, _≤_, zero-le}
+use mathlib.Core.Bool.{Bool, true, false, cond, not, _&&_, _||_, true≢false, false≢true}
+use mathlib.Core.Path.{_≡_, refl, sym, _∙_}
+use native.Mathlib.Nat.{mul-zero}
+use lib.Dec.{eqb}
+use borrow.Author.Tests.{eqb-true, eq-eqb}
+
+-- cases on a test
+pub by-test {ℓ} : {A : Type ℓ} (b : Bool) → (b ≡ true → A) → (b ≡ false → A) → A
+by-test true hit miss = hit refl
+by-test false hit miss = miss refl
+
+-- a property of a conditional, by cases on its test
+pub by-cond {ℓ κ} : {A : Type ℓ} (P : A → Type κ) (b : Bool) (x y : A) → (b ≡ true → P x) → (b ≡ false → P y) → P (cond b x y)
+by-cond P true x y hit miss = hit refl
+by-cond P false x y hit miss = miss refl
+
+pub clash : {b : Bool} → b ≡ true → b ≡ false → ⊥
+clash h k = true≢false (sym h ∙ k)
+
+-- what is not false is true
+pub not-no : (b : Bool) → (b ≡ false → ⊥) → b ≡ true
+not-no true h = refl
+not-no false h = absurd (h refl)
+
+-- what is not true is false
+pub not-yes : (b : Bool) → (b ≡ true → ⊥) → b ≡ false
+not-yes true h = absurd (h refl)
+not-yes false h = refl
+
+-- two tests that pass together are equal
+pub bool-eq : {a b : Bool} → (a ≡ true → b ≡ true) → (b ≡ true → a ≡ true) → a ≡ b
+bool-eq {a} {b} h k = by-test a (λ e. e ∙ sym (h e)) (λ e. e ∙ sym (not-yes b (λ p. clash (k p) e)))
+
+-- b fails where a does, if b passing makes a pass
+pub fails-of : {a b : Bool} → (b ≡ true → a ≡ true) → a ≡ false → b ≡ false
+fails-of {a} {b} h e = not-yes b (λ p. clash (h p) e)
+
+-- and
+
+pub and-elim : (a b : Bool) → a && b ≡ true → (a ≡ true) × (b ≡ true)
+and-elim true b e = (refl, e)
+and-elim false b e = absurd (false≢true e)
+
+pub and-intro : {a b : Bool} → a ≡ true → b ≡ true → a && b ≡ true
+and-intro {a} {b} h k = rw (h, k)
+
+pub and-cases {ℓ} : {A : Type ℓ} (a b : Bool) → a && b ≡ false → (a ≡ false → A) → (b ≡ false → A) → A
+and-cases true b e left right = right e
+and-cases false b e left right = left refl
+
+-- the second fails, if the first passes
+pub and-rest : {a : Bool} (b : Bool) → a && b ≡ false → a ≡ true → b ≡ false
+and-rest {a} b e h = rw h at e
+
+pub and-no-left : {a : Bool} (b : Bool) → a ≡ false → a && b ≡ false
+and-no-left {a} b h = rw h
+
+pub and-no-right : (a : Bool) {b : Bool} → b ≡ false → a && b ≡ false
+and-no-right true h = h
+and-no-right false h = refl
+
+-- or
+
+pub or-cases {ℓ} : {A : Type ℓ} (a b : Bool) → a || b ≡ true → (a ≡ true → A) → (b ≡ true → A) → A
+or-cases true b e left right = left refl
+or-cases false b e left right = right e
+
+-- the second passes, if the first fails
+pub or-rest : {a : Bool} (b : Bool) → a || b ≡ true → a ≡ false → b ≡ true
+or-rest {a} b e h = rw h at e
+
+pub or-left : {a : Bool} (b : Bool) → a ≡ true → a || b ≡ true
+or-left {a} b h = rw h
+
+pub or-right : (a : Bool) {b : Bool} → b ≡ true → a || b ≡ true
+or-right true h = refl
+or-right false h = h
+
+pub or-none : (a b : Bool) → a || b ≡ false → (a ≡ false) × (b ≡ false)
+or-none true b e = absurd (true≢false e)
+or-none false b e = (refl, e)
+
+pub or-none-intro : {a b : Bool} → a ≡ false → b ≡ false → a || b ≡ false
+or-none-intro {a} {b} h k = rw (h, k)
+
+-- not
+
+pub not-on : {b : Bool} → b ≡ false → not b ≡ true
+not-on h = rw h
+
+pub not-off : {b : Bool} → b ≡ true → not b ≡ false
+not-off h = rw h
+
+pub not-and : (a b : Bool) → not (a && b) ≡ (not a || not b)
+not-and true b = refl
+not-and false b = refl
+
+pub not-or : (a b : Bool) → not (a || b) ≡ (not a && not b)
+not-or true b = refl
+not-or false b = refl
+
+-- equality of numbers as a test
+
+pub eqb-same : (a : ℕ) → eqb a a ≡ true
+eqb-same a = eq-eqb a a refl
+
+pub eqb-sym : (a b : ℕ) → eqb a b ≡ eqb b a
+eqb-sym a b = bool-eq (λ e. eq-eqb b a (sym (eqb-true a b e))) (λ e. eq-eqb a b (sym (eqb-true b a e)))
+
+-- cond
+
+module _ {ℓ} {A : Type ℓ} (x y : A) where
+  pub cond-true : {b : Bool} → b ≡ true → cond b x y ≡ x
+  cond-true h = rw h
+
+  pub cond-false : {b : Bool} → b ≡ false → cond b x y ≡ y
+  cond-false h = rw h
+
+pub cond-same {ℓ} : {A : Type ℓ} (b : Bool) (x : A) → cond b x x ≡ x
+cond-same true x = refl
+cond-same false x = refl
+
+-- a function taken into the arms
+pub cond-map {ℓ κ} : {A : Type ℓ} {B : Type κ} (f : A → B) (b : Bool) (x y : A) → f (cond b x y) ≡ cond b (f x) (f y)
+cond-map f true x y = refl
+cond-map f false x y = refl
+
+-- equal tests, and arms equal where they are taken
+pub cond-cong {ℓ} : {A : Type ℓ} {a b : Bool} {x y u v : A} → a ≡ b → (b ≡ true → x ≡ u) → (b ≡ false → y ≡ v) → cond a x y ≡ cond b u v
+cond-cong {b = b} {x} {y} {u} {v} e hit miss = rw e (by-test b (λ h. rw h (hit h)) (λ h. rw h (miss h)))
+
+pub cond-not {ℓ} : {A : Type ℓ} (b : Bool) (x y : A) → cond (not b) x y ≡ cond b y x
+cond-not true x y = refl
+cond-not false x y = refl
+
+pub cond-and {ℓ} : {A : Type ℓ} (a b : Bool) (x y : A) → cond (a && b) x y ≡ cond a (cond b x y) y
+cond-and true b x y = refl
+cond-and false b x y = refl
+
+pub cond-le : (b : Bool) {x y z : ℕ} → (b ≡ true → x ≤ z) → (b ≡ false → y ≤ z) → cond b x y ≤ z
+cond-le b {x} {y} {z} = by-cond (λ v. v ≤ z) b x y
+
+pub le-cond : (b : Bool) {x y z : ℕ} → (b ≡ true → z ≤ x) → (b ≡ false → z ≤ y) → z ≤ cond b x y
+le-cond b {x} {y} {z} = by-cond (λ v. z ≤ v) b x y
+
+pub cond-scale : (k : ℕ) (b : Bool) (x : ℕ) → k * cond b x 0 ≡ cond b (k * x) 0
+cond-scale k true x = refl
+cond-scale k false x = mul-zero k
+
+-- the arm of a stricter test is at most the arm of a wider one
+pub cond-mono : (a b : Bool) {x y : ℕ} → (a ≡ true → b ≡ true) → (a ≡ true → x ≤ y) → cond a x 0 ≤ cond b y 0
+cond-mono true b {x} {y} h le = rw (h refl) (le refl)
+cond-mono false b h le = zero-le
