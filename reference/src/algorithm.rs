@@ -1,0 +1,141 @@
+//! Algorithm 1: the opening, steps 2a and 2b, and the cut of step 3.
+
+use crate::costs::Costs;
+use crate::pricing::{best_chores, holdings, least_sum, Holding};
+use crate::search::{search, Found, Move};
+use std::cmp::Reverse;
+
+/// The state of a run. Agents and chores count from 0.
+#[derive(Debug, Clone)]
+pub struct Run<'a> {
+    costs: &'a Costs,
+    pub owner: Vec<usize>,
+    pub price: Vec<u64>,
+    entitled: Vec<bool>,
+    /// The members of each cut group; round r's cut makes the r-th.
+    groups: Vec<Vec<usize>>,
+    pub moves: u64,
+}
+
+impl<'a> Run<'a> {
+    /// Runs every round, until the stop in step 2b.
+    pub fn to_the_end(costs: &'a Costs) -> Self {
+        let (owner, price) = opening(costs);
+        let mut run = Run {
+            costs,
+            owner,
+            price,
+            entitled: vec![false; costs.chores],
+            groups: Vec::new(),
+            moves: 0,
+        };
+        loop {
+            run.step_2a();
+            let reachable = run.step_2b();
+            if run.is_price_envy_free_up_to_one() {
+                return run;
+            }
+            run.step_3(&reachable);
+        }
+    }
+
+    pub fn cuts(&self) -> usize {
+        self.groups.len()
+    }
+
+    /// In round k: groups k-2 down to 1, each against the later groups.
+    fn step_2a(&mut self) {
+        let round = self.groups.len() + 1;
+        for group in (1..=round.saturating_sub(2)).rev() {
+            while let Some((giver, receiver)) = self.pair_of_2a(group) {
+                let chore = self.lowest_not_entitled(giver);
+                self.make(Move {
+                    giver,
+                    receiver,
+                    chore,
+                });
+            }
+        }
+    }
+
+    /// The giver and the receiver, if a move between them is due.
+    fn pair_of_2a(&self, group: usize) -> Option<(usize, usize)> {
+        let held = self.holdings();
+        let (earlier, later) = self.groups.split_at(group);
+        let givers = earlier[group - 1].iter().copied();
+        let receivers = later.iter().flatten().copied();
+        // The agent's number settles ties.
+        let giver = givers.min_by_key(|&i| (Reverse(held[i].price_up_to_one()), i))?;
+        let receiver = receivers.min_by_key(|&i| (held[i].sum, i))?;
+        let due = held[giver].price_up_to_one() > held[receiver].sum;
+        due.then_some((giver, receiver))
+    }
+
+    fn lowest_not_entitled(&self, giver: usize) -> usize {
+        (0..self.costs.chores)
+            .find(|&chore| self.owner[chore] == giver && !self.entitled[chore])
+            .expect("step 2a lacks its chore: all that the giver holds are entitled")
+    }
+
+    /// Moves until no giver is reachable; hands back who is reachable then.
+    fn step_2b(&mut self) -> Vec<bool> {
+        // Prices stay as they are during a step, so best chores do too.
+        let best: Vec<Vec<usize>> = (0..self.costs.agents)
+            .map(|agent| best_chores(self.costs, &self.price, agent))
+            .collect();
+        loop {
+            match search(&best, &self.owner, &self.holdings()) {
+                Found::Move(step) => self.make(step),
+                Found::Reachable(reachable) => return reachable,
+            }
+        }
+    }
+
+    fn is_price_envy_free_up_to_one(&self) -> bool {
+        let held = self.holdings();
+        let least = least_sum(&held);
+        held.iter()
+            .all(|holding| holding.price_up_to_one() <= least)
+    }
+
+    /// The reachable agents become a group; what they hold gets cheaper.
+    fn step_3(&mut self, reachable: &[bool]) {
+        for chore in 0..self.costs.chores {
+            if reachable[self.owner[chore]] {
+                self.entitled[chore] = true;
+                let scaled = self.price[chore] * self.costs.easy;
+                assert!(
+                    scaled.is_multiple_of(self.costs.difficult),
+                    "step 3 cuts a price to a number that is not whole"
+                );
+                self.price[chore] = scaled / self.costs.difficult;
+            }
+        }
+        let members = (0..self.costs.agents).filter(|&agent| reachable[agent]);
+        self.groups.push(members.collect());
+    }
+
+    fn make(&mut self, step: Move) {
+        assert_eq!(self.owner[step.chore], step.giver, "giver lacks the chore");
+        self.owner[step.chore] = step.receiver;
+        self.moves += 1;
+    }
+
+    fn holdings(&self) -> Vec<Holding> {
+        holdings(self.costs.agents, &self.owner, &self.price)
+    }
+}
+
+/// The owners and prices before round 1.
+pub fn opening(costs: &Costs) -> (Vec<usize>, Vec<u64>) {
+    let (easy, difficult) = (costs.easy, costs.difficult);
+    (0..costs.chores)
+        .map(|chore| {
+            let liking = (0..costs.agents).find(|&agent| costs.finds_easy(agent, chore));
+            match liking {
+                Some(agent) => (agent, easy * difficult),
+                None => (0, difficult * difficult),
+            }
+        })
+        .unzip()
+}

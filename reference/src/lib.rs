@@ -1,0 +1,26 @@
+//! The second program: the share-out of easy and difficult chores, and the
+//! checks of allocations and prices, written plainly from the scope document.
+//!
+//! Where that document says person, reel, list, even, best reel, price-one,
+//! ring and cut, the code says agent, chore, allocation (its bytes: owners),
+//! EF1, best chore, price up to one, distance and price cut. Bytes, verdicts
+//! and prints count agents and chores from 1; everything inside from 0.
+
+pub mod algorithm;
+pub mod book;
+pub mod cases;
+pub mod checks;
+pub mod compose;
+pub mod costs;
+pub mod fairness;
+pub mod limits;
+pub mod output;
+pub mod pricing;
+pub mod refusal;
+pub mod search;
+pub mod share_out;
+pub mod sheet;
+
+pub use book::{allocate_book, lookup, BookShareOut, SheetShareOut, Tally};
+pub use checks::{check_list, check_prices, dominates, is_small_enough, ListVerdict, PriceVerdict};
+pub use share_out::{allocate, ShareOut};

@@ -1,0 +1,20 @@
+//! Every limit of the formats and calls, by name.
+
+/// Agents of a sheet: 1 to this.
+pub const MAX_AGENTS: usize = 32;
+/// Chores of a sheet: 0 to this.
+pub const MAX_CHORES: usize = 200;
+/// The difficult weight is at most this.
+pub const MAX_WEIGHT: u32 = 1_000;
+/// A price handed to the price check is 1 to this.
+pub const MAX_PRICE: u32 = 1_000_000;
+/// Scratch bytes that the share-out must be lent.
+pub const MIN_SCRATCH: usize = 1_024;
+/// Sheets of a book: 1 to this.
+pub const MAX_SHEETS: usize = 16;
+/// Bytes of a book: 1 to this.
+pub const MAX_BOOK_BYTES: usize = 65_535;
+/// Entries that each long list of a book must have.
+pub const BOOK_ENTRIES: usize = MAX_SHEETS * MAX_CHORES;
+/// Waste is only decided where at most so many allocations exist.
+pub const MAX_ALLOCATIONS_TRIED: usize = 2_000_000;

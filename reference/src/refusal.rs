@@ -1,0 +1,22 @@
+//! The numbers for what is turned down.
+
+/// No agents, or too many.
+pub const AGENTS: u8 = 1;
+/// Too many chores.
+pub const CHORES: u8 = 2;
+/// Weights that are not 1 <= easy < difficult <= the limit.
+pub const WEIGHTS: u8 = 3;
+/// A mark that is neither easy nor difficult.
+pub const MARK: u8 = 4;
+/// A sheet of the wrong length.
+pub const LENGTH: u8 = 5;
+/// An owner list that is not one entry per chore.
+pub const OWNER_COUNT: u8 = 6;
+/// An owner who is not on the sheet.
+pub const OWNER: u8 = 7;
+/// A lent result list or the lent scratch is too short.
+pub const LENT: u8 = 8;
+/// A book against its rule, or a sheet that it does not have.
+pub const BOOK: u8 = 9;
+/// A price list that is not one entry per chore, or a price out of range.
+pub const PRICE: u8 = 10;

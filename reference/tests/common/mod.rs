@@ -1,0 +1,132 @@
+//! What several test files share. Each uses only a part of it.
+#![allow(dead_code)]
+
+use reference::limits::{MAX_WEIGHT, MIN_SCRATCH};
+use reference::{allocate, compose, ShareOut};
+
+/// The sheets to try, by their letter.
+pub fn a() -> Vec<u8> {
+    compose::sheet(1, 2, &[""])
+}
+pub fn b() -> Vec<u8> {
+    compose::sheet(1, 3, &["eeee", "dddd"])
+}
+pub fn c() -> Vec<u8> {
+    compose::sheet(1, 3, &["eeeee", "dddde"])
+}
+pub fn d() -> Vec<u8> {
+    compose::sheet(1, 2, &["eee", "eee"])
+}
+pub fn e() -> Vec<u8> {
+    compose::sheet(1, 2, &["ed", "de"])
+}
+pub fn f() -> Vec<u8> {
+    compose::sheet(1, 2, &["de", "de"])
+}
+pub fn g() -> Vec<u8> {
+    compose::sheet(1, 3, &["eeedd", "ddded", "eeede"])
+}
+
+/// The owners, prices, moves and cuts of a sheet, or its refusal number.
+pub type Outcome = Result<(Vec<u8>, Vec<u32>, u64, u8), u8>;
+
+/// Shares a sheet out with lists of its own length, by its header.
+pub fn share(sheet: &[u8]) -> Outcome {
+    let chores = sheet.get(1).copied().map_or(0, usize::from);
+    let mut owners = vec![0; chores];
+    let mut prices = vec![0; chores];
+    let mut scratch = vec![7; MIN_SCRATCH];
+    match allocate(sheet, &mut owners, &mut prices, &mut scratch) {
+        ShareOut::Refused(number) => Err(number),
+        ShareOut::Shared { moves, cuts } => Ok((owners, prices, moves, cuts)),
+    }
+}
+
+/// A small generator of numbers that are the same on every run.
+pub struct Random(u64);
+
+impl Random {
+    pub fn new(seed: u64) -> Self {
+        Random(seed)
+    }
+
+    /// A number below `bound`.
+    pub fn below(&mut self, bound: usize) -> usize {
+        // splitmix64
+        self.0 = self.0.wrapping_add(0x9e37_79b9_7f4a_7c15);
+        let mut word = self.0;
+        word = (word ^ (word >> 30)).wrapping_mul(0xbf58_476d_1ce4_e5b9);
+        word = (word ^ (word >> 27)).wrapping_mul(0x94d0_49bb_1331_11eb);
+        ((word ^ (word >> 31)) % bound as u64) as usize
+    }
+
+    /// Weights that keep the rule, often near its ends.
+    pub fn weights(&mut self) -> (u16, u16) {
+        let most = MAX_WEIGHT as u16;
+        match self.below(6) {
+            0 => (1, 2),
+            1 => (1, 3),
+            2 => (2, 3),
+            3 => (1, most),
+            4 => (most - 1, most),
+            _ => {
+                let difficult = 2 + self.below(MAX_WEIGHT as usize - 1) as u16;
+                (1 + self.below(difficult as usize - 1) as u16, difficult)
+            }
+        }
+    }
+
+    /// Rows of either shape below.
+    pub fn rows(&mut self, agents: usize, chores: usize) -> Vec<String> {
+        match self.below(2) {
+            0 => self.rows_of_tempers(agents, chores),
+            _ => self.rows_of_blocks(agents, chores),
+        }
+    }
+
+    /// Agents and chores differ in how often a mark is easy.
+    fn rows_of_tempers(&mut self, agents: usize, chores: usize) -> Vec<String> {
+        let of_chore: Vec<usize> = (0..chores).map(|_| self.below(5)).collect();
+        let mut row = || {
+            let of_agent = self.below(5);
+            let easy = |&of_chore: &usize| self.below(16) < of_agent * of_chore;
+            of_chore.iter().map(easy).map(mark).collect()
+        };
+        (0..agents).map(|_| row()).collect()
+    }
+
+    /// Most chores are easy for one agent only, with unequal shares of them.
+    /// Such sheets take the most rounds.
+    fn rows_of_blocks(&mut self, agents: usize, chores: usize) -> Vec<String> {
+        let skew = 1 + self.below(4);
+        let noise = self.below(4);
+        let turn = self.below(agents);
+        let lowest = |random: &mut Self| (0..skew).map(|_| random.below(agents)).min().unwrap();
+        let home: Vec<usize> = (0..chores)
+            .map(|_| (turn + 5 * lowest(self)) % agents)
+            .collect();
+        let mut row = |agent: usize| {
+            let easy = |&home: &usize| home == agent || self.below(64) < noise;
+            home.iter().map(easy).map(mark).collect()
+        };
+        (0..agents).map(&mut row).collect()
+    }
+
+    pub fn sheet(&mut self, agents: usize, chores: usize) -> Vec<u8> {
+        let (easy, difficult) = self.weights();
+        compose::sheet(easy, difficult, &self.rows(agents, chores))
+    }
+
+    /// One owner per chore.
+    pub fn owners(&mut self, agents: usize, chores: usize) -> Vec<u8> {
+        (0..chores).map(|_| 1 + self.below(agents) as u8).collect()
+    }
+}
+
+fn mark(easy: bool) -> char {
+    if easy {
+        'e'
+    } else {
+        'd'
+    }
+}

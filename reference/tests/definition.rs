@@ -1,0 +1,169 @@
+//! Whole runs against a slow one that picks everything by its definition.
+//! The search of step 2b has a test of its own.
+
+mod common;
+
+use common::Random;
+use reference::algorithm::Run;
+use reference::costs::Costs;
+use reference::pricing::holdings;
+use reference::search::{search, Found};
+use reference::sheet::Sheet;
+use std::cmp::Reverse;
+use std::collections::BTreeSet;
+
+struct Slow<'a> {
+    costs: &'a Costs,
+    owner: Vec<usize>,
+    price: Vec<u64>,
+    entitled: BTreeSet<usize>,
+    groups: Vec<BTreeSet<usize>>,
+    moves: u64,
+    moves_of_2a: u64,
+}
+
+impl<'a> Slow<'a> {
+    fn open(costs: &'a Costs) -> Self {
+        let mut slow = Slow {
+            costs,
+            owner: vec![0; costs.chores],
+            price: vec![costs.difficult * costs.difficult; costs.chores],
+            entitled: BTreeSet::new(),
+            groups: Vec::new(),
+            moves: 0,
+            moves_of_2a: 0,
+        };
+        // Downwards, so that the lowest agent who likes a chore comes last.
+        for agent in (0..costs.agents).rev() {
+            for chore in 0..costs.chores {
+                if costs.of(agent, chore) == costs.easy {
+                    slow.owner[chore] = agent;
+                    slow.price[chore] = costs.easy * costs.difficult;
+                }
+            }
+        }
+        slow
+    }
+
+    fn prices_of(&self, agent: usize) -> Vec<u64> {
+        let held = (0..self.costs.chores).filter(|&chore| self.owner[chore] == agent);
+        held.map(|chore| self.price[chore]).collect()
+    }
+
+    fn sum(&self, agent: usize) -> u64 {
+        self.prices_of(agent).iter().sum()
+    }
+
+    fn price_up_to_one(&self, agent: usize) -> u64 {
+        let mut prices = self.prices_of(agent);
+        prices.sort_unstable();
+        prices.pop();
+        prices.iter().sum()
+    }
+
+    fn best(&self, agent: usize) -> Vec<usize> {
+        let chores = 0..self.costs.chores;
+        let cost = |chore: usize| self.costs.of(agent, chore);
+        let at_most = |r: usize, s: usize| cost(r) * self.price[s] <= cost(s) * self.price[r];
+        let is_best = |&r: &usize| chores.clone().all(|s| at_most(r, s));
+        chores.clone().filter(is_best).collect()
+    }
+
+    fn step_2a(&mut self) {
+        let made = self.groups.len();
+        for group in (0..made.saturating_sub(1)).rev() {
+            loop {
+                let later: BTreeSet<usize> =
+                    self.groups[group + 1..].iter().flatten().copied().collect();
+                let greatest = |&i: &usize| (Reverse(self.price_up_to_one(i)), i);
+                let least = |&i: &usize| (self.sum(i), i);
+                let giver = self.groups[group]
+                    .iter()
+                    .copied()
+                    .min_by_key(greatest)
+                    .unwrap();
+                let receiver = later.iter().copied().min_by_key(least).unwrap();
+                if self.price_up_to_one(giver) <= self.sum(receiver) {
+                    break;
+                }
+                let goes = |r: &usize| self.owner[*r] == giver && !self.entitled.contains(r);
+                let chore = (0..self.costs.chores).find(goes).unwrap();
+                self.owner[chore] = receiver;
+                self.moves += 1;
+                self.moves_of_2a += 1;
+            }
+        }
+    }
+
+    fn step_2b(&mut self) -> Vec<bool> {
+        loop {
+            let best: Vec<Vec<usize>> = (0..self.costs.agents).map(|i| self.best(i)).collect();
+            let held = holdings(self.costs.agents, &self.owner, &self.price);
+            match search(&best, &self.owner, &held) {
+                Found::Reachable(reachable) => return reachable,
+                Found::Move(step) => {
+                    self.owner[step.chore] = step.receiver;
+                    self.moves += 1;
+                }
+            }
+        }
+    }
+
+    fn is_done(&self) -> bool {
+        let mut pairs =
+            (0..self.costs.agents).flat_map(|i| (0..self.costs.agents).map(move |j| (i, j)));
+        pairs.all(|(i, j)| self.price_up_to_one(i) <= self.sum(j))
+    }
+
+    fn step_3(&mut self, reachable: &[bool]) {
+        let group: BTreeSet<usize> = (0..self.costs.agents).filter(|&i| reachable[i]).collect();
+        for chore in (0..self.costs.chores).filter(|&r| group.contains(&self.owner[r])) {
+            self.entitled.insert(chore);
+            self.price[chore] = self.price[chore] * self.costs.easy / self.costs.difficult;
+        }
+        self.groups.push(group);
+    }
+
+    fn run(&mut self) {
+        loop {
+            self.step_2a();
+            let reachable = self.step_2b();
+            if self.is_done() {
+                return;
+            }
+            self.step_3(&reachable);
+        }
+    }
+}
+
+/// Compares one sheet; hands back the moves of step 2a.
+fn compare(sheet: &[u8]) -> u64 {
+    let costs = Costs::as_read(&Sheet::parse(sheet).unwrap());
+    let run = Run::to_the_end(&costs);
+    let mut slow = Slow::open(&costs);
+    slow.run();
+    assert_eq!(run.owner, slow.owner, "{sheet:?}");
+    assert_eq!(run.price, slow.price, "{sheet:?}");
+    assert_eq!(run.moves, slow.moves, "{sheet:?}");
+    assert_eq!(run.cuts(), slow.groups.len(), "{sheet:?}");
+    // Cut groups have nobody in common.
+    let members: usize = slow.groups.iter().map(BTreeSet::len).sum();
+    let all: BTreeSet<&usize> = slow.groups.iter().flatten().collect();
+    assert_eq!(members, all.len(), "{sheet:?}");
+    slow.moves_of_2a
+}
+
+#[test]
+fn small_and_medium_sheets() {
+    let mut random = Random::new(4);
+    let mut moves_of_2a = 0;
+    for _ in 0..4_000 {
+        let (agents, chores) = (1 + random.below(8), random.below(25));
+        moves_of_2a += compare(&random.sheet(agents, chores));
+    }
+    for _ in 0..150 {
+        let (agents, chores) = (1 + random.below(32), random.below(81));
+        moves_of_2a += compare(&random.sheet(agents, chores));
+    }
+    assert!(moves_of_2a > 300, "{moves_of_2a}");
+}

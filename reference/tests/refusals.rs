@@ -1,0 +1,163 @@
+//! Each refusal number, the order among them, and what a refusal keeps.
+
+mod common;
+
+use common::{b, c, share};
+use reference::limits::MIN_SCRATCH;
+use reference::{allocate, check_list, check_prices, compose};
+use reference::{ListVerdict, PriceVerdict, ShareOut};
+
+/// Faults of a sheet, in the order in which they are found.
+const SHEET_FAULTS: [u8; 6] = [5, 1, 2, 3, 5, 4];
+
+/// A sheet with the faults whose bits are set, in the order above.
+fn faulty_sheet(faults: usize) -> Vec<u8> {
+    let has = |fault: usize| faults >> fault & 1 == 1;
+    let agents = if has(1) { 33 } else { 2 };
+    let chores = if has(2) { 201 } else { 4 };
+    let difficult = if has(3) { 2 } else { 3 };
+    let mut sheet = compose::sheet(2, difficult, &vec!["e".repeat(chores); agents]);
+    if has(5) {
+        sheet[6] = b'x';
+    }
+    if has(4) {
+        sheet.push(b'e');
+    }
+    if has(0) {
+        sheet.truncate(5);
+    }
+    sheet
+}
+
+/// The number of the first fault whose bit is set.
+fn first_fault(faults: usize, numbers: &[u8]) -> Option<u8> {
+    let first = (0..numbers.len()).find(|fault| faults >> fault & 1 == 1);
+    first.map(|fault| numbers[fault])
+}
+
+#[test]
+fn allocate_finds_the_first_of_any_faults() {
+    let numbers = [&SHEET_FAULTS[..], &[8, 8, 8]].concat();
+    for faults in 1..1_usize << numbers.len() {
+        let has = |fault: usize| faults >> fault & 1 == 1;
+        let sheet = faulty_sheet(faults);
+        let mut owners = vec![77; if has(6) { 3 } else { 210 }];
+        let mut prices = vec![78; if has(7) { 3 } else { 210 }];
+        let mut scratch = vec![79; if has(8) { MIN_SCRATCH - 1 } else { MIN_SCRATCH }];
+        let expected = first_fault(faults, &numbers).unwrap();
+        let answer = allocate(&sheet, &mut owners, &mut prices, &mut scratch);
+        assert_eq!(answer, ShareOut::Refused(expected), "faults {faults:b}");
+        assert!(owners.iter().all(|&entry| entry == 77));
+        assert!(prices.iter().all(|&entry| entry == 78));
+        assert!(scratch.iter().all(|&entry| entry == 79));
+    }
+}
+
+#[test]
+fn check_list_finds_the_first_of_any_faults() {
+    let numbers = [&SHEET_FAULTS[..], &[6, 7, 8]].concat();
+    for faults in 1..1_usize << numbers.len() {
+        let has = |fault: usize| faults >> fault & 1 == 1;
+        let sheet = faulty_sheet(faults);
+        // Where the sheet is accepted, it has 4 chores and 2 agents.
+        let mut owners = vec![1; if has(6) { 5 } else { 4 }];
+        owners[3] = if has(7) { 3 } else { 2 };
+        let mut shown = vec![77; if has(8) { 3 } else { 6 }];
+        let expected = first_fault(faults, &numbers).unwrap();
+        let answer = check_list(&sheet, &owners, &mut shown);
+        assert_eq!(answer, ListVerdict::Refused(expected), "faults {faults:b}");
+        assert!(shown.iter().all(|&entry| entry == 77));
+    }
+}
+
+#[test]
+fn check_prices_finds_the_first_of_any_faults() {
+    let numbers = [&SHEET_FAULTS[..], &[6, 7, 10, 10]].concat();
+    for faults in 1..1_usize << numbers.len() {
+        let has = |fault: usize| faults >> fault & 1 == 1;
+        let sheet = faulty_sheet(faults);
+        let mut owners = vec![1; if has(6) { 3 } else { 4 }];
+        owners[0] = if has(7) { 0 } else { 2 };
+        let mut prices = vec![6; if has(8) { 5 } else { 4 }];
+        prices[1] = if has(9) { 0 } else { 6 };
+        let expected = first_fault(faults, &numbers).unwrap();
+        let answer = check_prices(&sheet, &owners, &prices);
+        assert_eq!(answer, PriceVerdict::Refused(expected), "faults {faults:b}");
+    }
+}
+
+#[test]
+fn short_sheets() {
+    for length in 0..6 {
+        assert_eq!(share(&c()[..length]), Err(5));
+        // Also where the bytes that are there break another rule.
+        assert_eq!(share(&[0, 255, 0, 0, 0][..length.min(5)]), Err(5));
+    }
+}
+
+#[test]
+fn sheet_headers() {
+    // Agents, chores, easy weight, difficult weight, with no marks.
+    let table: [(u8, u8, u16, u16, u8); 12] = [
+        (0, 0, 1, 2, 1),
+        (33, 0, 1, 2, 1),
+        (255, 255, 0, 0, 1),
+        (1, 201, 1, 2, 2),
+        (32, 255, 0, 0, 2),
+        (1, 1, 0, 2, 3),
+        (1, 1, 0, 0, 3),
+        (1, 1, 2, 1, 3),
+        (1, 1, 1_000, 1_000, 3),
+        (1, 1, 999, 1_001, 3),
+        (1, 1, 256, 255, 3),
+        (1, 1, 999, 1_000, 5),
+    ];
+    for (agents, chores, easy, difficult, number) in table {
+        let mut sheet = vec![agents, chores];
+        sheet.extend(easy.to_be_bytes());
+        sheet.extend(difficult.to_be_bytes());
+        assert_eq!(share(&sheet), Err(number), "{sheet:?}");
+    }
+}
+
+#[test]
+fn lengths_and_marks() {
+    let sheet = c();
+    assert_eq!(share(&sheet[..sheet.len() - 1]), Err(5));
+    assert_eq!(share(&[&sheet[..], b"e"].concat()), Err(5));
+    assert_eq!(
+        share(&compose::sheet(1, 2, &["", "", ""])),
+        Ok((vec![], vec![], 0, 0))
+    );
+    for place in 6..sheet.len() {
+        for mark in 0..=255 {
+            let mut marked = sheet.clone();
+            marked[place] = mark;
+            let known = mark == 0x65 || mark == 0x64;
+            assert_eq!(share(&marked).err(), (!known).then_some(4));
+        }
+    }
+}
+
+#[test]
+fn a_share_out_keeps_what_lies_beyond() {
+    let mut owners = [77; 9];
+    let mut prices = [78; 8];
+    let mut scratch = [79; MIN_SCRATCH + 3];
+    let answer = allocate(&b(), &mut owners, &mut prices, &mut scratch);
+    assert_eq!(answer, ShareOut::Shared { moves: 2, cuts: 0 });
+    assert_eq!(owners, [2, 2, 1, 1, 77, 77, 77, 77, 77]);
+    assert_eq!(prices, [3, 3, 3, 3, 78, 78, 78, 78]);
+    assert_eq!(scratch, [0; MIN_SCRATCH + 3]);
+}
+
+#[test]
+fn no_chores_need_no_entries() {
+    let sheet = compose::sheet(1, 2, &["", ""]);
+    let mut scratch = [1; MIN_SCRATCH];
+    let answer = allocate(&sheet, &mut [], &mut [], &mut scratch);
+    assert_eq!(answer, ShareOut::Shared { moves: 0, cuts: 0 });
+    assert_eq!(scratch, [0; MIN_SCRATCH]);
+    assert_eq!(check_list(&sheet, &[], &mut []), ListVerdict::Holds);
+    assert_eq!(check_prices(&sheet, &[], &[]), PriceVerdict::Accepted);
+}
