@@ -10,3 +10,4 @@ pub mod Extremes
 pub mod Chosen
 pub mod Running
 pub mod Reach
+pub mod Distances

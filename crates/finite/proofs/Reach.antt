@@ -1,4 +1,5 @@
--- Laws of reachability in rounds. (belongs to finite)
+-- Laws of reachability in rounds.
+-- Assumes nothing.
 use Prim.Native.Nat.{ℕ, zero, suc, _+_, _≤_, _<_}
 use mathlib.Core.Bool.{Bool, true, false, _&&_, _||_}
 use mathlib.Core.Path.{_≡_, refl, sym, ap, ap₂, _∙_}

@@ -1,3 +1,4 @@
 pub mod Unique
 pub mod Cases
 pub mod Starred
+pub mod Pairs

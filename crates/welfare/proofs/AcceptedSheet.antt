@@ -1,0 +1,96 @@
+-- An accepted list holds: the price check and the list check of the same sheet and owner list.
+use Prim.Native.Nat.{ℕ, _≤_, _<_}
+use mathlib.Core.Bool.{true, false}
+use mathlib.Core.List.{List}
+use mathlib.Core.Path.{_≡_}
+use native.Mathlib.Nat.{le-of-lt}
+use native.Mathlib.Omega.{arith}
+use lib.Dec.{eqb}
+use borrow.Author.Tests.{eqb-true}
+use Rattle.finite.proofs.Tests.{by-test}
+use Rattle.model.specs.Instance.{ownerOf, priceOf}
+use Rattle.model.specs.Sheet.{agentsOf, choresOf, asMarked}
+use Rattle.model.specs.Fairness.{ef1, isAllocation, dominates, dominated}
+use Rattle.model.specs.Refusals.{sheetRefusal, ownersRefusal, pricesRefusal, _orElse_, priceRefusal, listRefusal}
+use Rattle.model.specs.Replies.{Reply, refused, holds, accepted}
+use Rattle.model.specs.Verdicts.{unlessRefused, priceVerdict, listCheck, priceCheck}
+use Rattle.welfare.proofs.Costs.{Weighted}
+use Rattle.welfare.proofs.Accepted.{Bought, bought-efficient, bought-even}
+use Rattle.welfare.proofs.PriceVerdict.{Priced, accepted-elim, accepted-intro}
+use Rattle.welfare.proofs.ListVerdict.{verdict-holds}
+use Rattle.welfare.proofs.Allocations.{allocation-below, undominated}
+use Rattle.welfare.proofs.Peel.{neither, neither-given, sheet-weights, owners-ok, prices-ok, lent-ok}
+
+-- what an accepted list was given
+pub record AcceptedList (s owners prices : List ℕ) : Type 0 where
+  pub sheet-ok : sheetRefusal s ≡ 0
+  pub owners-fit : ownersRefusal (agentsOf s) (choresOf s) owners ≡ 0
+  pub prices-fit : pricesRefusal (choresOf s) prices ≡ 0
+  pub priced : Priced (asMarked s) (ownerOf owners) (priceOf prices)
+
+-- no number is returned by an answer that is not a refusal
+not-refused : (k : ℕ) (answer : Reply) → unlessRefused k answer ≡ accepted → (k ≡ 0) × (answer ≡ accepted)
+unfolding unlessRefused
+not-refused k answer e =
+    by-test (eqb k 0)
+    (λ h. (eqb-true k 0 h, rw h at e))
+    (λ h. let r : refused k ≡ accepted = rw h at e in let z : _≡_ {A = ℕ} 0 1 = cc in absurd (omega arith))
+
+pub accepted-list : (s owners prices : List ℕ) → priceCheck s owners prices ≡ accepted → AcceptedList s owners prices
+unfolding priceCheck priceRefusal
+accepted-list s owners prices e =
+    let both = not-refused (priceRefusal s owners prices) (priceVerdict (asMarked s) (ownerOf owners) (priceOf prices)) e in
+    let one = neither (sheetRefusal s) (ownersRefusal (agentsOf s) (choresOf s) owners orElse pricesRefusal (choresOf s) prices) (both .0) in
+    let two = neither (ownersRefusal (agentsOf s) (choresOf s) owners) (pricesRefusal (choresOf s) prices) (one .1) in
+    record {
+      sheet-ok = one .0;
+      owners-fit = two .0;
+      prices-fit = two .1;
+      priced = accepted-elim (asMarked s) (ownerOf owners) (priceOf prices) (both .1);
+    }
+
+-- and what is given all that is accepted
+pub accepted-check : {s owners prices : List ℕ} → AcceptedList s owners prices → priceCheck s owners prices ≡ accepted
+unfolding priceCheck priceRefusal unlessRefused
+accepted-check {s} {owners} {prices} a =
+    rw (neither-given (a .sheet-ok) (neither-given (a .owners-fit) (a .prices-fit))) (accepted-intro (asMarked s) (ownerOf owners) (priceOf prices) (a .priced))
+
+module _ (s owners prices : List ℕ) (a : AcceptedList s owners prices) where
+  weighted : Weighted (asMarked s)
+  unfolding asMarked
+  weighted =
+      let w = sheet-weights s (a .sheet-ok) in
+      record { easy-positive = w .easy-positive; easy-least = le-of-lt (w .easy-less) }
+
+  bought : Bought (asMarked s) (ownerOf owners) (priceOf prices)
+  unfolding asMarked
+  bought =
+      record {
+        owner = owners-ok (agentsOf s) (choresOf s) owners (a .owners-fit);
+        priced = prices-ok (choresOf s) prices (a .prices-fit);
+        best-owned = a .priced .best-owned;
+      }
+
+  pub accepted-even : ef1 (asMarked s) (ownerOf owners) ≡ true
+  accepted-even = bought-even (asMarked s) (ownerOf owners) (priceOf prices) bought (a .priced .no-envy)
+
+  -- no allocation at all dominates, be it given as a list or as a function
+  pub accepted-undominated : (y : ℕ → ℕ) → ((c : ℕ) → c < asMarked s .m → y c < asMarked s .n) → dominates (asMarked s) y (ownerOf owners) ≡ false
+  accepted-undominated = bought-efficient (asMarked s) (ownerOf owners) (priceOf prices) bought weighted
+
+  pub accepted-not-wasteful : dominated (asMarked s) (ownerOf owners) ≡ false
+  accepted-not-wasteful = undominated (asMarked s) (ownerOf owners) accepted-undominated
+
+-- an accepted list is even, and no list of m owners from 1 to n dominates it
+pub accepted-fair : (s owners prices : List ℕ) → priceCheck s owners prices ≡ accepted → (ef1 (asMarked s) (ownerOf owners) ≡ true) × ((y : List ℕ) → isAllocation (asMarked s) y ≡ true → dominates (asMarked s) (ownerOf y) (ownerOf owners) ≡ false)
+accepted-fair s owners prices e =
+    let a = accepted-list s owners prices e in
+    (accepted-even s owners prices a, λ y h. accepted-undominated s owners prices a (ownerOf y) (allocation-below (asMarked s) y h))
+
+-- so the list check answers `holds`
+pub accepted-holds : (s owners prices : List ℕ) → priceCheck s owners prices ≡ accepted → (lent : ℕ) → choresOf s ≤ lent → listCheck s owners lent ≡ holds
+unfolding listCheck listRefusal unlessRefused
+accepted-holds s owners prices e lent l =
+    let a = accepted-list s owners prices e in
+    rw (neither-given (a .sheet-ok) (neither-given (a .owners-fit) (lent-ok {needed = choresOf s} {lent = lent} l)))
+    (verdict-holds (asMarked s) (ownerOf owners) (accepted-even s owners prices a) (accepted-not-wasteful s owners prices a))

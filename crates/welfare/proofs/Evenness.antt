@@ -1,0 +1,137 @@
+-- Evenness is decided by the costliest chore: if any chore taken off makes the rest cost no more, one of the costliest does.
+use Prim.Native.Nat.{ℕ, _+_, _≤_, _<_}
+use mathlib.Core.Bool.{Bool, true, false, cond, not, _&&_}
+use mathlib.Core.Logic.{_↔_}
+use mathlib.Core.Path.{_≡_, sym, ap, _∙_}
+use native.Mathlib.Nat.{le-of-eq}
+use native.Mathlib.Omega.{arith}
+use lib.Dec.{leb}
+use borrow.Author.Tests.{leb-true, le-leb, not-true}
+use Rattle.finite.specs.Sums.{maxWhere}
+use Rattle.finite.specs.Search.{anyBelow, allBelow}
+use Rattle.finite.proofs.Tests.{by-test, by-cond, clash, bool-eq, not-on, not-yes, and-elim, and-intro, or-cases, or-left, or-right}
+use Rattle.finite.proofs.Search.{any-elim, any-intro, any-none, all-elim, all-intro, all-fails}
+use Rattle.finite.proofs.Where.{where-none, where-off}
+use Rattle.finite.proofs.Extremes.{peak-attained, peak-above, peak-unique}
+use Rattle.model.specs.Instance.{Instance, cost}
+use Rattle.model.specs.Fairness.{owns, holdsAny, total, costTo, costWithout, fair, ef1}
+use Rattle.model.specs.Verdicts.{firstOfPair, secondOfPair, envies}
+use Rattle.welfare.specs.Waste.{burdened}
+use Rattle.welfare.proofs.Costs.{owned, owned-by, cost-easy, cost-difficult, cost-at-most, burden-elim, burden-none}
+use Rattle.model.proofs.Pairs.{FirstPair, pair-some, pair-found}
+
+module _ (I : Instance) (x : ℕ → ℕ) where
+  -- what an agent without chores has costs nothing
+  pub idle-cost : (i j : ℕ) → holdsAny (I .m) x j ≡ false → costTo I x i j ≡ 0
+  unfolding holdsAny costTo total
+  idle-cost i j e = where-none (I .m) (owns x j) (cost I i) (any-none (I .m) (owns x j) e)
+
+  -- a chore taken off and put back
+  pub off-cost : (i c : ℕ) → c < I .m → owns x i c ≡ true → costWithout I x i c + cost I i c ≡ costTo I x i i
+  unfolding costWithout costTo total
+  off-cost i c l h = where-off (owns x i) (cost I i) c l h
+
+  pub fair-idle : (i j : ℕ) → holdsAny (I .m) x i ≡ false → fair I x i j ≡ true
+  unfolding fair
+  fair-idle i j e =
+      or-left (anyBelow (I .m) (λ c. owns x i c && leb (costWithout I x i c) (costTo I x i j))) (not-on e)
+
+  -- any chore whose rest costs no more will do
+  pub fair-off : (i j c : ℕ) → c < I .m → owns x i c ≡ true → costWithout I x i c ≤ costTo I x i j → fair I x i j ≡ true
+  unfolding fair
+  fair-off i j c l h rest =
+      or-right (not (holdsAny (I .m) x i))
+      (any-intro (λ c. owns x i c && leb (costWithout I x i c) (costTo I x i j)) c l (and-intro h (le-leb _ _ rest)))
+
+  pub fair-elim : (i j : ℕ) → fair I x i j ≡ true → costTo I x i i ≤ costTo I x i j + maxWhere (I .m) (owns x i) (cost I i)
+  unfolding fair
+  fair-elim i j e =
+      let spare : ℕ → Bool = λ c. owns x i c && leb (costWithout I x i c) (costTo I x i j) in
+      or-cases (not (holdsAny (I .m) x i)) (anyBelow (I .m) spare) e (λ h. omega (arith, idle-cost i i (not-true _ h))) λ h.
+      let r = any-elim (I .m) spare h in
+      let c = r .index in
+      let both = and-elim (owns x i c) (leb (costWithout I x i c) (costTo I x i j)) (r .passes) in
+      omega (arith, leb-true (costWithout I x i c) (costTo I x i j) (both .1), off-cost i c (r .below) (both .0), peak-above (owns x i) (cost I i) c (r .below) (both .0))
+
+  -- a costliest chore will do
+  costliest-off : (i j : ℕ) → holdsAny (I .m) x i ≡ true → costTo I x i i ≤ costTo I x i j + maxWhere (I .m) (owns x i) (cost I i) → fair I x i j ≡ true
+  unfolding holdsAny
+  costliest-off i j e h =
+      let r = any-elim (I .m) (owns x i) e in
+      let d = peak-attained (owns x i) (cost I i) (r .index) (r .below) (r .passes) in
+      fair-off i j (d .index) (d .below) (d .passes) (omega (arith, off-cost i (d .index) (d .below) (d .passes), d .value))
+
+  pub fair-intro : (i j : ℕ) → (holdsAny (I .m) x i ≡ true → costTo I x i i ≤ costTo I x i j + maxWhere (I .m) (owns x i) (cost I i)) → fair I x i j ≡ true
+  fair-intro i j h = by-test (holdsAny (I .m) x i) (λ e. costliest-off i j e (h e)) (λ e. fair-idle i j e)
+
+  -- one comparison decides, also where i holds nothing
+  pub fair-test : (i j : ℕ) → fair I x i j ≡ leb (costTo I x i i) (costTo I x i j + maxWhere (I .m) (owns x i) (cost I i))
+  fair-test i j = bool-eq (λ e. le-leb _ _ (fair-elim i j e)) (λ e. fair-intro i j (λ _. leb-true _ _ e))
+
+  pub fair-self : (i : ℕ) → fair I x i i ≡ true
+  fair-self i = fair-intro i i (λ _. omega arith)
+
+  -- the costliest chore of an agent that owns a difficult one costs b
+  costliest-difficult : I .a ≤ I .b → (i : ℕ) → burdened I x i ≡ true → maxWhere (I .m) (owns x i) (cost I i) ≡ I .b
+  costliest-difficult le i e =
+      let r = burden-elim I x i e in
+      sym (peak-unique (record {
+        index = r .chore;
+        below = r .below;
+        passes = owned-by x i (r .chore) (r .owner);
+        value = cost-difficult I i (r .chore) (r .difficult);
+        above = λ c l q. cost-at-most I i c le;
+      }))
+
+  -- and that of an agent that owns easy ones only costs a
+  costliest-easy : (i : ℕ) → burdened I x i ≡ false → holdsAny (I .m) x i ≡ true → maxWhere (I .m) (owns x i) (cost I i) ≡ I .a
+  unfolding holdsAny
+  costliest-easy i e h =
+      let r = any-elim (I .m) (owns x i) h in
+      sym (peak-unique (record {
+        index = r .index;
+        below = r .below;
+        passes = r .passes;
+        value = light (r .index) (r .below) (r .passes);
+        above = λ c l q. le-of-eq (light c l q);
+      }))
+    where
+      light : (c : ℕ) → c < I .m → owns x i c ≡ true → cost I i c ≡ I .a
+      light c l q = cost-easy I i c (burden-none I x i e c l (owned x i c q))
+
+  pub costliest : I .a ≤ I .b → (i : ℕ) → holdsAny (I .m) x i ≡ true → maxWhere (I .m) (owns x i) (cost I i) ≡ cond (burdened I x i) (I .b) (I .a)
+  costliest le i h =
+      by-cond (λ v. maxWhere (I .m) (owns x i) (cost I i) ≡ v) (burdened I x i) (I .b) (I .a) (costliest-difficult le i) (λ e. costliest-easy i e h)
+
+  -- what there is to compute
+  pub fair-weights : I .a ≤ I .b → (i j : ℕ) → fair I x i j ≡ leb (costTo I x i i) (costTo I x i j + cond (burdened I x i) (I .b) (I .a))
+  fair-weights le i j =
+      by-test (holdsAny (I .m) x i)
+      (λ e. fair-test i j ∙ ap (λ v. leb (costTo I x i i) (costTo I x i j + v)) (costliest le i e))
+      (λ e. fair-idle i j e ∙ sym (le-leb (costTo I x i i) (costTo I x i j + cond (burdened I x i) (I .b) (I .a)) (omega (arith, idle-cost i i e))))
+
+  pub ef1-elim : ef1 I x ≡ true → (i j : ℕ) → i < I .n → j < I .n → fair I x i j ≡ true
+  unfolding ef1
+  ef1-elim e i j l k =
+      all-elim (I .n) (λ j. fair I x i j) (all-elim (I .n) (λ i. allBelow (I .n) (λ j. fair I x i j)) e i l) j k
+
+  pub ef1-intro : ((i j : ℕ) → i < I .n → j < I .n → fair I x i j ≡ true) → ef1 I x ≡ true
+  unfolding ef1
+  ef1-intro all =
+      all-intro (I .n) (λ i. allBelow (I .n) (λ j. fair I x i j)) λ i l. all-intro (I .n) (λ j. fair I x i j) (λ j. all i j l)
+
+  pub ef1-iff : (ef1 I x ≡ true) ↔ ((i j : ℕ) → i < I .n → j < I .n → fair I x i j ≡ true)
+  ef1-iff = (ef1-elim, ef1-intro)
+
+  -- a list that is not even has a first pair that shows it
+  pub uneven-pair : ef1 I x ≡ false → FirstPair (I .n) (envies I x) (firstOfPair (I .n) (envies I x)) (secondOfPair (I .n) (envies I x))
+  unfolding ef1 envies
+  uneven-pair e =
+      let r = all-fails (I .n) (λ i. allBelow (I .n) (λ j. fair I x i j)) e in
+      let s = all-fails (I .n) (λ j. fair I x (r .index) j) (r .fails) in
+      pair-found (I .n) (envies I x) (pair-some (I .n) (envies I x) (r .index) (s .index) (r .below) (s .below) (not-on (s .fails)))
+
+  -- and a pair that envies shows that the list is not even
+  pub uneven : (i j : ℕ) → i < I .n → j < I .n → envies I x i j ≡ true → ef1 I x ≡ false
+  unfolding envies
+  uneven i j l k h = not-yes _ (λ e. clash (ef1-elim e i j l k) (not-true _ h))

@@ -1,0 +1,14 @@
+pub mod Costs
+pub mod Domination
+pub mod Allocations
+pub mod Evenness
+pub mod Accepted
+pub mod PriceVerdict
+pub mod ListVerdict
+pub mod Peel
+pub mod AcceptedSheet
+pub mod Taint
+pub mod Wasteless
+pub mod Handed
+pub mod Walk
+pub mod Waste

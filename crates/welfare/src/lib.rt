@@ -1,0 +1,1 @@
+// Theorems on evenness, waste and prices: no code.
