@@ -1,0 +1,263 @@
+-- One step of Algorithm 1 from a reached state: it ends, or it comes to a reached state with a smaller number. It never lacks a chore.
+-- Assumes nothing.
+use Prim.Native.Nat.{ℕ, _+_, _-_, _*_, _≤_, _<_, zero-le}
+use mathlib.Core.Bool.{Bool, true, false, cond, _&&_}
+use mathlib.Core.Path.{_≡_, refl, sym, ap, subst, _∙_}
+use native.Mathlib.Nat.{mul-le-mul-right}
+use native.Mathlib.Omega.{arith}
+use lib.Dec.{eqb, ltb}
+use borrow.Author.Tests.{ltb-true, ltb-false, lt-ltb, eq-eqb, ne-eqb}
+use Rattle.finite.specs.Search.{anyBelow}
+use Rattle.finite.specs.Sums.{countTo}
+use Rattle.finite.proofs.Tests.{by-test, clash, cond-true, cond-false, and-intro}
+use Rattle.finite.proofs.Below.{by-less}
+use Rattle.finite.proofs.Search.{Hit, any-elim, any-intro, any-none}
+use Rattle.finite.proofs.Fibres.{Moves}
+use Rattle.finite.proofs.Extremes.{Low}
+use Rattle.model.specs.Instance.{Instance}
+use Rattle.model.specs.Prices.{priceSum, priceUpToOne}
+use Rattle.model.specs.Step2a.{giver2a, receiver2a, due2a, chore2a}
+use Rattle.model.specs.Step2b.{leastSum, above, within, reachable, due2b, ring2b, giver2b, receiver2b, chore2b}
+use Rattle.model.specs.Algorithm.{State, Outcome, busy, done, Action, hand, pass, cut, stop, owner, price, group, isEntitled, action2a, action2b, action, handed, passed, inNewGroup, afterCut, result, step}
+use Rattle.algorithm.specs.Kinds.{Sound}
+use Rattle.algorithm.specs.Core.{Core}
+use Rattle.algorithm.specs.Due.{Due}
+use Rattle.algorithm.specs.Phases.{Entitled, Stage, Began, Quiet, Calm, calm}
+use Rattle.algorithm.specs.Stages.{DueA, ownedBy}
+use Rattle.algorithm.specs.Cuts.{NextRound}
+use Rattle.algorithm.specs.Measure.{measure2b, measureTop}
+use Rattle.algorithm.specs.Theorem.{CleanCut}
+use Rattle.algorithm.specs.Reached.{roundTop, moveTop, placeNumber, stepNumber, Shaped, Since, Place, in2a, in2b, Reached}
+use Rattle.algorithm.proofs.UpToOne.{up-le}
+use Rattle.algorithm.proofs.Best.{price-positive, price-bound, core-moved}
+use Rattle.algorithm.proofs.Rings.{least-low, due-found}
+use Rattle.algorithm.proofs.Measure.{measure2b-top, measure2b-falls}
+use Rattle.algorithm.proofs.Calm.{entitled-moved, calm-uncut, calm-moved, calm-ends}
+use Rattle.algorithm.proofs.Stage.{stage-due, stage-moved, stage-core, stage-falls, owned-le, stage-passed, stage-quiet, stage-began}
+use Rattle.algorithm.proofs.Rising.{cuts-rise}
+use Rattle.algorithm.proofs.Cut.{apart}
+use Rattle.algorithm.proofs.NextRound.{next-round}
+use Rattle.algorithm.proofs.Actions.{stepped, hands2b, cuts2b, stops2b, hands2a, passes2a}
+use Rattle.algorithm.proofs.States.{handed-moves, handed-shaped, cut-shaped, cut-cuts}
+
+-- What a step from the state s does.
+pub data Steps (I : Instance) (s : State) : Type 0 where
+  ended : step I s ≡ done s → ((i j : ℕ) → i < I .n → j < I .n → priceUpToOne (I .m) (owner I s) (price I s) i ≤ priceSum (I .m) (owner I s) (price I s) j) → Steps I s
+  went : (t : State) → step I s ≡ busy t → Reached I t → stepNumber I t < stepNumber I s → Steps I s
+
+-- a stage that is left is more than the place that follows
+place-under : (I : Instance) (s : State) → measure2b I (owner I s) (price I s) ≤ measureTop I → placeNumber I s ≤ measureTop I + (s .stage * (I .m + 1) + I .m)
+unfolding placeNumber
+place-under I s top =
+    by-test (eqb (s .stage) 0) (λ e. rw e (omega (arith, top)))
+    (λ e. rw e (omega (arith, owned-le I (owner I s) (group I s) (s .stage))))
+
+-- the invariant of a stage is that of its place
+place-of : {I : Instance} → Sound I → (t : State) {top : ℕ} → t .stage ≤ I .n → Core I (owner I t) (price I t) (group I t) (isEntitled I t) → Stage I (price I t) (group I t) (isEntitled I t) (owner I t) top (t .stage) → Place I t top
+place-of {I} S t {top} low K T =
+    by-less 0 (t .stage) (λ h. in2a h low T) λ h.
+    let e : t .stage ≡ 0 = omega arith in
+    let U : Stage I (price I t) (group I t) (isEntitled I t) (owner I t) top 0 =
+    subst (λ g. Stage I (price I t) (group I t) (isEntitled I t) (owner I t) top g) e T in
+    in2b e (λ z. record { began = owner I t; facts = stage-began K U }) (calm (stage-quiet S U))
+
+pub in2b-number : (I : Instance) (s : State) → s .stage ≡ 0 → placeNumber I s ≡ measure2b I (owner I s) (price I s)
+unfolding placeNumber
+in2b-number I s e = cond-true _ _ (eq-eqb (s .stage) 0 e)
+
+in2a-number : (I : Instance) (s : State) → 0 < s .stage → placeNumber I s ≡ measureTop I + (s .stage * (I .m + 1) + ownedBy I (owner I s) (group I s) (s .stage))
+unfolding placeNumber
+in2a-number I s h = cond-false _ _ (ne-eqb (s .stage) 0 (λ e. omega arith))
+
+module _ {I : Instance} {s : State} (R : Reached I s) where
+  -- fewer cuts than agents
+  pub fewer-cuts : s .cuts < I .n
+  fewer-cuts = omega (arith, R .few, R .left)
+
+  -- a move keeps whatever speaks of prices, groups and cuts
+  handed-reached : (k u : ℕ) → Shaped I (handed I s k u) → Core I (owner I (handed I s k u)) (price I s) (group I s) (isEntitled I s) → Entitled I (price I s) (group I s) (isEntitled I s) (owner I (handed I s k u)) (R .top) → Place I (handed I s k u) (R .top) → stepNumber I (handed I s k u) < stepNumber I s → Reached I (handed I s k u)
+  unfolding handed group isEntitled
+  handed-reached k u shaped core entitled place falls =
+      record {
+        shaped = shaped;
+        core = core;
+        few = R .few;
+        left = R .left;
+        bounded = R .bounded;
+        top = R .top;
+        entitled = entitled;
+        place = place;
+        budget = omega (arith, R .budget);
+      }
+
+  -- with the cuts unchanged the number of the place decides
+  handed-falls : (k u : ℕ) → placeNumber I (handed I s k u) < placeNumber I s → stepNumber I (handed I s k u) < stepNumber I s
+  unfolding stepNumber handed
+  handed-falls k u h = omega arith
+
+  -- the prices bound the number of the place
+  measure-low : Sound I → (y : ℕ → ℕ) → measure2b I y (price I s) ≤ measureTop I
+  measure-low S y = measure2b-top I y (price I s) (price-bound S (R .core))
+
+  passed-reached : Place I (passed I s) (R .top) → stepNumber I (passed I s) < stepNumber I s → Reached I (passed I s)
+  unfolding passed group isEntitled
+  passed-reached place falls =
+      record {
+        shaped = record { owners = R .shaped .owners; prices = R .shaped .prices; groups = R .shaped .groups; entitled = R .shaped .entitled; numbered = R .shaped .numbered };
+        core = R .core;
+        few = R .few;
+        left = R .left;
+        bounded = R .bounded;
+        top = R .top;
+        entitled = R .entitled;
+        place = place;
+        budget = omega (arith, R .budget);
+      }
+
+  cut-falls : Sound I → Core I (owner I s) (price I (afterCut I s)) (group I (afterCut I s)) (isEntitled I (afterCut I s)) → stepNumber I (afterCut I s) < stepNumber I s
+  unfolding afterCut stepNumber roundTop
+  cut-falls S K =
+      let t = afterCut I s in
+      let top = measure2b-top I (owner I t) (price I t) (price-bound S K) in
+      let one : (I .n - s .cuts) * roundTop I ≡ (I .n - (s .cuts + 1) + 1) * roundTop I = ap (λ r. r * roundTop I) (omega (arith, fewer-cuts)) in
+      omega (arith, place-under I t top, mul-le-mul-right (I .m + 1) fewer-cuts, one)
+
+  cut-reached : Sound I → NextRound I (owner I s) (price I s) (group I s) (isEntitled I s) (s .cuts) (price I (afterCut I s)) (group I (afterCut I s)) (isEntitled I (afterCut I s)) → stepNumber I (afterCut I s) < stepNumber I s → Reached I (afterCut I s)
+  unfolding afterCut
+  cut-reached S N falls =
+      record {
+        shaped = cut-shaped (R .shaped);
+        core = N .core;
+        few = omega (arith, N .grows, R .few);
+        left = N .left;
+        bounded = N .bounded;
+        top = leastSum I (owner I s) (price I s);
+        entitled = N .entitled;
+        place = place-of S (afterCut I s) (omega (arith, fewer-cuts)) (N .core) (N .stage);
+        budget = omega (arith, R .budget);
+      }
+
+  module _ (S : Sound I) where
+    -- 2b with a move due
+    move2b : s .stage ≡ 0 → (0 < R .top → Since I s (R .top)) → Calm I (price I s) (group I s) (isEntitled I s) (owner I s) → due2b I (owner I s) (price I s) ≡ true → Steps I s
+    unfolding result handed group isEntitled
+    move2b e since C h =
+        let x = owner I s in
+        let p = price I s in
+        let d = due-found I x p (S .some) h in
+        let k = chore2b I x p in
+        let w = giver2b I x p in
+        let u = receiver2b I x p in
+        let v : Moves (I .m) x (owner I (handed I s k u)) k w u =
+        handed-moves (R .shaped) k w u (d .chore) (d .owned) (λ q. clash (d .near) (ap (λ i. within I x p (ring2b I x p - 1) i) (sym q) ∙ d .notNearer)) in
+        let falls = measure2b-falls d v (R .core .owner) (price-positive S (R .core) k (d .chore)) in
+        let t = handed I s k u in
+        let number : stepNumber I t < stepNumber I s =
+        handed-falls k u (omega (arith, in2b-number I s e, in2b-number I t e, falls)) in
+        went t (stepped I s (hands2b I s e h (d .receiver) (d .chore)))
+        (handed-reached k u (handed-shaped (R .shaped) k u (d .chore)) (core-moved S (R .core) v (d .receiver) (d .wants)) (entitled-moved (R .entitled) v (calm-uncut S (R .core) C d))
+        (in2b e (λ z. record { began = since z .began; facts = since z .facts }) (calm-moved S (R .core) C d v)) number)
+        number
+
+    -- 2b with nobody above the least sum
+    stop2b : s .stage ≡ 0 → due2b I (owner I s) (price I s) ≡ false → anyBelow (I .n) (above I (owner I s) (price I s)) ≡ false → Steps I s
+    unfolding result above
+    stop2b e h none =
+        let x = owner I s in
+        let p = price I s in
+        ended (stepped I s (stops2b I s e h none))
+        (λ i j hi hj. omega (arith, ltb-false (leastSum I x p) (priceUpToOne (I .m) x p i) (any-none (I .n) (above I x p) none i hi), least-low I x p (S .some) .under j hj))
+
+    -- 2a with a move due
+    move2a : 0 < s .stage → s .stage ≤ I .n → Stage I (price I s) (group I s) (isEntitled I s) (owner I s) (R .top) (s .stage) → due2a I (owner I s) (price I s) (group I s) (isEntitled I s) (s .stage) ≡ true → Steps I s
+    unfolding result handed group isEntitled
+    move2a some low T h =
+        let x = owner I s in
+        let p = price I s in
+        let g = s .stage in
+        let d = stage-due I x p (group I s) (isEntitled I s) g some (R .entitled) h in
+        let i = giver2a I x p (group I s) (isEntitled I s) g in
+        let j = receiver2a I x p (group I s) (isEntitled I s) g in
+        let c = chore2a I x p (group I s) (isEntitled I s) g in
+        let v : Moves (I .m) x (owner I (handed I s c j)) c i j =
+        handed-moves (R .shaped) c i j (d .chore) (d .owned) (λ q. omega (arith, ap (group I s) q, d .atWork, d .later)) in
+        let t = handed I s c j in
+        let number : stepNumber I t < stepNumber I s =
+        handed-falls c j (omega (arith, in2a-number I s some, in2a-number I t some, stage-falls d v)) in
+        went t (stepped I s (hands2a I s some h (d .chore)))
+        (handed-reached c j (handed-shaped (R .shaped) c j (d .chore)) (stage-core S (R .core) T d v) (entitled-moved (R .entitled) v (d .uncut)) (in2a some low (stage-moved S (R .core) T d v)) number)
+        number
+
+    -- 2a with no move due: the group before, or 2b
+    pass2a : 0 < s .stage → s .stage ≤ I .n → Stage I (price I s) (group I s) (isEntitled I s) (owner I s) (R .top) (s .stage) → due2a I (owner I s) (price I s) (group I s) (isEntitled I s) (s .stage) ≡ false → Steps I s
+    unfolding result passed group isEntitled stepNumber
+    pass2a some low T h =
+        let t = passed I s in
+        let one : s .stage * (I .m + 1) ≡ (s .stage - 1 + 1) * (I .m + 1) = ap (λ g. g * (I .m + 1)) (omega arith) in
+        let falls : placeNumber I t < placeNumber I s =
+        omega (arith, in2a-number I s some, place-under I t (measure-low S (owner I t)), one) in
+        let number : stepNumber I t < stepNumber I s = omega (arith, falls) in
+        went t (stepped I s (passes2a I s some h)) (passed-reached (place-of S t (omega arith) (R .core) (stage-passed some h T)) number) number
+
+    -- 3: somebody is above the least sum and out of reach
+    module _ (C : Calm I (price I s) (group I s) (isEntitled I s) (owner I s)) (h : due2b I (owner I s) (price I s) ≡ false) (a : Hit (I .n) (above I (owner I s) (price I s))) where
+      high : leastSum I (owner I s) (price I s) < priceUpToOne (I .m) (owner I s) (price I s) (a .index)
+      unfolding above
+      high = ltb-true (leastSum I (owner I s) (price I s)) (priceUpToOne (I .m) (owner I s) (price I s) (a .index)) (a .passes)
+
+      free : (i : ℕ) → i < I .n → reachable I (owner I s) (price I s) i ≡ true → group I s i ≡ 0
+      free = apart S (R .core) (calm-ends S (R .core) C h) h (a .below) high
+
+      next : (0 < R .top → Since I s (R .top)) → NextRound I (owner I s) (price I s) (group I s) (isEntitled I s) (s .cuts) (price I (afterCut I s)) (group I (afterCut I s)) (isEntitled I (afterCut I s))
+      next since =
+          let rises : R .top ≤ leastSum I (owner I s) (price I s) =
+          by-less 0 (R .top) (λ z. cuts-rise S (R .core) (since z .facts) free h) (λ z. omega arith) in
+          next-round S (R .core) (R .entitled) (calm-ends S (R .core) C h) h (a .below) high (R .bounded) rises (cut-cuts I s)
+
+      cut2b : s .stage ≡ 0 → (0 < R .top → Since I s (R .top)) → Steps I s
+      unfolding result
+      cut2b e since =
+          let N = next since in
+          let number = cut-falls S (N .core) in
+          went (afterCut I s) (stepped I s (cuts2b I s e h (any-intro (above I (owner I s) (price I s)) (a .index) (a .below) (a .passes)))) (cut-reached S N number) number
+
+      clean2b : (0 < R .top → Since I s (R .top)) → CleanCut I s
+      unfolding inNewGroup
+      clean2b since = record { once = free; exact = next since .exact }
+
+  pub steps : Sound I → Steps I s
+  steps S = go (R .place)
+    where
+      go : Place I s (R .top) → Steps I s
+      go (in2a some low T) =
+          by-test (due2a I (owner I s) (price I s) (group I s) (isEntitled I s) (s .stage)) (move2a S some low T) (pass2a S some low T)
+      go (in2b e since C) =
+          by-test (due2b I (owner I s) (price I s)) (move2b S e since C) λ h.
+          by-test (anyBelow (I .n) (above I (owner I s) (price I s)))
+          (λ a. cut2b S C h (any-elim (I .n) (above I (owner I s) (price I s)) a) e since)
+          (stop2b S e h)
+
+  -- each cut is a clean one: only the end of 2b with somebody above calls for it
+  pub clean-cut : Sound I → action I s ≡ cut → CleanCut I s
+  clean-cut S q = go (R .place)
+    where
+      not-hand : {c w u : ℕ} → action I s ≡ hand c w u → CleanCut I s
+      not-hand r = let z : _≡_ {A = ℕ} 0 1 = cc in absurd (omega arith)
+
+      not-pass : action I s ≡ pass → CleanCut I s
+      not-pass r = let z : _≡_ {A = ℕ} 0 1 = cc in absurd (omega arith)
+
+      not-stop : action I s ≡ stop → CleanCut I s
+      not-stop r = let z : _≡_ {A = ℕ} 0 1 = cc in absurd (omega arith)
+
+      go : Place I s (R .top) → CleanCut I s
+      go (in2a some low T) =
+          by-test (due2a I (owner I s) (price I s) (group I s) (isEntitled I s) (s .stage))
+          (λ h. not-hand (hands2a I s some h (stage-due I (owner I s) (price I s) (group I s) (isEntitled I s) (s .stage) some (R .entitled) h .chore)))
+          (λ h. not-pass (passes2a I s some h))
+      go (in2b e since C) =
+          by-test (due2b I (owner I s) (price I s))
+          (λ h. let d = due-found I (owner I s) (price I s) (S .some) h in not-hand (hands2b I s e h (d .receiver) (d .chore))) λ h.
+          by-test (anyBelow (I .n) (above I (owner I s) (price I s)))
+          (λ a. clean2b S C h (any-elim (I .n) (above I (owner I s) (price I s)) a) since)
+          (λ a. not-stop (stops2b I s e h a))

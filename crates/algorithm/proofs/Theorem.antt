@@ -1,0 +1,73 @@
+-- Demand 3: the theorem on Algorithm 1, for every sheet that breaks no rule.
+-- Assumes nothing.
+use Prim.Native.Nat.{ℕ, _+_, _*_, _≤_, _<_}
+use mathlib.Core.Bool.{Bool, true, false, cond}
+use mathlib.Core.List.{List}
+use mathlib.Core.Logic.{_⊎_, inl, inr}
+use mathlib.Core.Path.{_≡_}
+use native.Mathlib.Omega.{arith}
+use Rattle.finite.proofs.Tests.{by-test}
+use Rattle.finite.proofs.Lists.{Picks}
+use Rattle.model.specs.Instance.{Instance, ownerOf}
+use Rattle.model.specs.Sheet.{asMarked, asRead}
+use Rattle.model.specs.Fairness.{isAllocation}
+use Rattle.model.specs.Algorithm.{State, cut, owner, price, group, isEntitled, action, inNewGroup, afterCut}
+use Rattle.model.specs.Refusals.{sheetRefusal}
+use Rattle.model.specs.Promises.{Demand3}
+use Rattle.welfare.proofs.Allocations.{picks-allocation}
+use Rattle.welfare.proofs.AcceptedSheet.{accepted-fair}
+use Rattle.algorithm.specs.Kinds.{dear, kindPrice}
+use Rattle.algorithm.specs.Core.{Core}
+use Rattle.algorithm.specs.Reached.{moveTop, Reached}
+use Rattle.algorithm.specs.Theorem.{CleanCut, Theorem}
+use Rattle.algorithm.proofs.Reading.{sheet-sound}
+use Rattle.algorithm.proofs.End.{check-accepted}
+use Rattle.algorithm.proofs.Machine.{fewer-cuts, clean-cut}
+use Rattle.algorithm.proofs.Begin.{opening-reached}
+use Rattle.algorithm.proofs.Ending.{Ended, run-ends, reached, never-lacking, done-reached, done-even}
+
+-- a reached state's owners are m numbers from 1 to n
+picks : {I : Instance} {s : State} → Reached I s → Picks (I .n) (I .m) (s .owners)
+unfolding ownerOf
+picks R =
+    record {
+      size = R .shaped .owners;
+      positive = R .shaped .numbered;
+      bounded = λ c h. omega (arith, R .core .owner c h, R .shaped .numbered c h);
+    }
+
+-- the prices of a reached state are of three kinds
+three : {I : Instance} {x p group : ℕ → ℕ} {cut : ℕ → Bool} → Core I x p group cut → (c : ℕ) → c < I .m → (p c ≡ I .a * I .a) ⊎ ((p c ≡ I .a * I .b) ⊎ (p c ≡ I .b * I .b))
+unfolding kindPrice
+three {I} {cut} K c h =
+    let e = K .priced c h in
+    by-test (cut c)
+    (λ q. by-test (dear I c) (λ d. inr (inl (rw (q, d) at e))) (λ d. inl (rw (q, d) at e)))
+    (λ q. by-test (dear I c) (λ d. inr (inr (rw (q, d) at e))) (λ d. inr (inl (rw (q, d) at e))))
+
+pub theorem : (s : List ℕ) → sheetRefusal s ≡ 0 → Theorem s
+unfolding asRead asMarked moveTop
+theorem s valid =
+    let S = sheet-sound s valid in
+    let O = opening-reached S in
+    let E = run-ends S O in
+    let x = E .final in
+    let R = done-reached S O (E .count) x (E .ends) in
+    let passes = check-accepted s (x .owners) (x .prices) valid (R .core) (picks R) (R .shaped .prices) (done-even S O (E .count) x (E .ends)) in
+    let fair = accepted-fair s (x .owners) (x .prices) passes in
+    record {
+      final = x;
+      demand3 =
+          record {
+            ends = record { steps = E .count; ends = E .ends };
+            cuts = fewer-cuts R;
+            neverLacks = never-lacking S O;
+            allocation = picks-allocation (asMarked s) (x .owners) (picks R);
+            even = fair .0;
+            undominated = fair .1;
+            passes = passes;
+          };
+      kinds = three (R .core);
+      clean = λ k y e q. clean-cut (reached S O k y e) S q;
+      moves = omega (arith, R .budget);
+    }

@@ -1,0 +1,1 @@
+// Theorems about Algorithm 1: no code.
