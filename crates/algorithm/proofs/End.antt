@@ -24,7 +24,7 @@ use Rattle.model.specs.Verdicts.{firstOfPair, firstOffPrice, enviesByPrice, unl
 use Rattle.algorithm.specs.Kinds.{Sound}
 use Rattle.algorithm.specs.Core.{Core}
 use Rattle.algorithm.proofs.Best.{owner-best, price-positive, price-bound}
-use Rattle.algorithm.proofs.Readable.{weight-bound}
+use Rattle.sheet.proofs.Refusal.{valid}
 use Rattle.algorithm.proofs.Reading.{sheet-sound, best-as-marked}
 
 -- each chore is best for its owner, and no price-one is above any sum
@@ -70,7 +70,7 @@ module _ (s owners prices : List ℕ) {group : ℕ → ℕ} {cut : ℕ → Bool}
   unfolding asRead
   prices-range c h =
       let S = sheet-sound s passed in
-      let square : difficultWeight s * difficultWeight s ≤ maxWeight * maxWeight = mul-le-mul (weight-bound s passed) (weight-bound s passed) in
+      let square : difficultWeight s * difficultWeight s ≤ maxWeight * maxWeight = mul-le-mul (valid s passed .weightFits) (valid s passed .weightFits) in
       (price-positive S K c h, omega (arith, price-bound S K c h))
 
   -- the lists of owner numbers and prices get the answer `accepted`

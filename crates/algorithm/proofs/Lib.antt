@@ -2,7 +2,6 @@ pub mod UpToOne
 pub mod Best
 pub mod Rings
 pub mod Opening
-pub mod Readable
 pub mod Reading
 pub mod End
 pub mod Calm

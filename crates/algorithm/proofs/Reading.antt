@@ -15,11 +15,12 @@ use Rattle.model.specs.Sheet.{agentsOf, choresOf, easyWeight, difficultWeight, 
 use Rattle.model.specs.Prices.{best, ratioAtMost}
 use Rattle.model.specs.Refusals.{isMark, sheetRefusal}
 use Rattle.algorithm.specs.Kinds.{Sound}
-use Rattle.algorithm.proofs.Readable.{Readable, readable}
+use Rattle.sheet.specs.Valid.{Valid}
+use Rattle.sheet.proofs.Refusal.{valid}
 use Rattle.algorithm.proofs.Best.{leb-same}
 
 -- an agent whose row isn't all difficult marks some chore easy
-marks-some : {s : List ℕ} → Readable s → (i : ℕ) → i < agentsOf s → allDifficult s i ≡ false → Hit (choresOf s) (marksEasy s i)
+marks-some : {s : List ℕ} → Valid s → (i : ℕ) → i < agentsOf s → allDifficult s i ≡ false → Hit (choresOf s) (marksEasy s i)
 unfolding allDifficult marksEasy isMark
 marks-some {s} R i hi e =
     let r = all-fails (choresOf s) (λ c. eqb (markAt s i c) difficultMark) e in
@@ -29,12 +30,12 @@ marks-some {s} R i hi e =
       passes = or-cases (eqb (markAt s i (r .index)) easyMark) (eqb (markAt s i (r .index)) difficultMark) (R .marks i (r .index) hi (r .below)) (λ h. h) (λ h. absurd (clash h (r .fails)));
     }
 
-pub read-sound : {s : List ℕ} → Readable s → Sound (asRead s)
+pub read-sound : {s : List ℕ} → Valid s → Sound (asRead s)
 unfolding asRead
 read-sound {s} R =
     record {
-      some = R .some;
-      positive = R .positive;
+      some = R .someAgent;
+      positive = R .easyPositive;
       easier = R .easier;
       likes = λ i hi some.
           by-test (allDifficult s i)
@@ -43,7 +44,7 @@ read-sound {s} R =
     }
 
 pub sheet-sound : (s : List ℕ) → sheetRefusal s ≡ 0 → Sound (asRead s)
-sheet-sound s passed = read-sound (readable s passed)
+sheet-sound s passed = read-sound (valid s passed)
 
 leb-scaled : (k u v : ℕ) → 0 < k → leb (k * u) (k * v) ≡ leb u v
 leb-scaled k u v h =

@@ -1,1 +1,158 @@
-// Reading a sheet.
+// Reading a sheet: its header, its marks, and the number that it is turned down with. Agents and chores are counted from 0.
+
+ghost use mathlib.Core.Path.{_≡_};
+ghost use Prim.Native.Nat.{_+_, _≤_, _<_};
+ghost use lib.ListN.{length, getD};
+ghost use Rattle.finite.specs.Lists.{wordAt};
+ghost use Rattle.model.specs.Sheet.{agentsOf, choresOf, easyWeight, difficultWeight, marksEasy, allDifficult};
+ghost use Rattle.model.specs.Refusals.{isMark, sheetRefusal};
+ghost use Rattle.sheet.specs.Parts.{agentsFault, weightsFault, marksFault, headerRefusal};
+ghost use Rattle.sheet.specs.Readers.{Read, InSheet, RowInSheet};
+
+// The marks start here.
+const HEADER: usize = 6;
+
+const EASY: u8 = b'e';
+
+const DIFFICULT: u8 = b'd';
+
+pub fn byte_at(bytes: &[u8], i: usize) -> u32
+    requires { ⌜ i < length (now bytes) ⌝ }
+    ensures { λ r. ⌜ Read (getD (now (bytes .entry)) i 0) 256 r ⌝ }
+{
+    bytes[i] as u32
+}
+
+// Two bytes, high byte first.
+pub fn word_at(bytes: &[u8], i: usize) -> u32
+    requires { ⌜ i + 1 < length (now bytes) ⌝ }
+    ensures { λ r. ⌜ Read (wordAt (now (bytes .entry)) i) 65536 r ⌝ }
+{
+    let high = byte_at(bytes, i);
+    let low = byte_at(bytes, i + 1);
+    256 * high + low
+}
+
+pub fn agents(sheet: &[u8]) -> usize
+    requires { ⌜ 6 ≤ length (now sheet) ⌝ }
+    ensures { λ r. ⌜ Read (agentsOf (now (sheet .entry))) 256 r ⌝ }
+{
+    byte_at(sheet, 0) as usize
+}
+
+pub fn chores(sheet: &[u8]) -> usize
+    requires { ⌜ 6 ≤ length (now sheet) ⌝ }
+    ensures { λ r. ⌜ Read (choresOf (now (sheet .entry))) 256 r ⌝ }
+{
+    byte_at(sheet, 1) as usize
+}
+
+pub fn easy_weight(sheet: &[u8]) -> u32
+    requires { ⌜ 6 ≤ length (now sheet) ⌝ }
+    ensures { λ r. ⌜ Read (easyWeight (now (sheet .entry))) 65536 r ⌝ }
+{
+    word_at(sheet, 2)
+}
+
+pub fn difficult_weight(sheet: &[u8]) -> u32
+    requires { ⌜ 6 ≤ length (now sheet) ⌝ }
+    ensures { λ r. ⌜ Read (difficultWeight (now (sheet .entry))) 65536 r ⌝ }
+{
+    word_at(sheet, 4)
+}
+
+// Whoever asks for a mark asks here, so that where it lies is known to nobody else. The caller passes the number of chores, since a
+// search asks for many marks of one sheet.
+pub fn marks_easy(sheet: &[u8], m: usize, i: usize, c: usize) -> bool
+    requires { ⌜ InSheet (now sheet) m i c ⌝ }
+    ensures { λ r. ⌜ r ≡ marksEasy (now (sheet .entry)) i c ⌝ }
+{
+    sheet[HEADER + i * m + c] == EASY
+}
+
+// In a valid sheet a mark that is not easy is difficult.
+pub fn all_difficult(sheet: &[u8], m: usize, i: usize) -> bool
+    requires { ⌜ RowInSheet (now sheet) m i ⌝ }
+    ensures { λ r. ⌜ r ≡ allDifficult (now (sheet .entry)) i ⌝ }
+{
+    let mut c = 0;
+    while c < m {
+        if marks_easy(sheet, m, i, c) {
+            return false;
+        }
+        c += 1;
+    }
+    true
+}
+
+fn is_mark(byte: u8) -> bool
+    ensures { λ r. ⌜ r ≡ isMark byte ⌝ }
+{
+    byte == EASY || byte == DIFFICULT
+}
+
+// Whether one of the `count` bytes after the header is no mark.
+fn marks_fault(sheet: &[u8], count: usize) -> bool
+    requires { ⌜ 6 + count ≤ length (now sheet) ⌝ }
+    ensures { λ r. ⌜ r ≡ marksFault (now (sheet .entry)) count ⌝ }
+{
+    let mut k = 0;
+    while k < count {
+        if !is_mark(sheet[HEADER + k]) {
+            return true;
+        }
+        k += 1;
+    }
+    false
+}
+
+fn agents_fault(n: usize) -> bool
+    ensures { λ r. ⌜ r ≡ agentsFault n ⌝ }
+{
+    n == 0 || n > model::MAX_AGENTS
+}
+
+fn weights_fault(a: u32, b: u32) -> bool
+    ensures { λ r. ⌜ r ≡ weightsFault a b ⌝ }
+{
+    a == 0 || (b <= a || b > model::MAX_WEIGHT)
+}
+
+// The tests come in the order of the numbers, so that the first that holds decides.
+fn header_refusal(n: usize, m: usize, a: u32, b: u32) -> u8
+    ensures { λ r. ⌜ r ≡ headerRefusal n m a b ⌝ }
+{
+    if agents_fault(n) {
+        return 1;
+    }
+    if m > model::MAX_CHORES {
+        return 2;
+    }
+    if weights_fault(a, b) {
+        return 3;
+    }
+    0
+}
+
+// 0 for a sheet that is not turned down. The length is judged after the header, since it depends on it.
+pub fn sheet_refusal(sheet: &[u8]) -> u8
+    ensures { λ r. ⌜ r ≡ sheetRefusal (now (sheet .entry)) ⌝ }
+{
+    if sheet.len() < HEADER {
+        return 5;
+    }
+    let n = agents(sheet);
+    let m = chores(sheet);
+    let refusal = header_refusal(n, m, easy_weight(sheet), difficult_weight(sheet));
+    if refusal != 0 {
+        return refusal;
+    }
+    let marks = n * m;
+    if sheet.len() != HEADER + marks {
+        return 5;
+    }
+    if marks_fault(sheet, marks) {
+        return 4;
+    }
+    0
+}

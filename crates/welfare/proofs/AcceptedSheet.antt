@@ -19,7 +19,9 @@ use Rattle.welfare.proofs.Accepted.{Bought, bought-efficient, bought-ev
 use Rattle.welfare.proofs.PriceVerdict.{Priced, accepted-elim, accepted-intro}
 use Rattle.welfare.proofs.ListVerdict.{verdict-holds}
 use Rattle.welfare.proofs.Allocations.{allocation-below, undominated}
-use Rattle.welfare.proofs.Peel.{neither, neither-given, sheet-weights, owners-ok, prices-ok, lent-ok}
+use Rattle.sheet.proofs.OrElse.{or-else-zero, or-else-none}
+use Rattle.sheet.proofs.Refusal.{valid}
+use Rattle.welfare.proofs.NotRefused.{owners-ok, prices-ok, lent-ok}
 
 -- what an accepted list was given
 pub record AcceptedList (s owners prices : List ℕ) : Type 0 where
@@ -40,8 +42,8 @@ pub accepted-list : (s owners prices : List ℕ) → priceCheck s owners prices 
 unfolding priceCheck priceRefusal
 accepted-list s owners prices e =
     let both = not-refused (priceRefusal s owners prices) (priceVerdict (asMarked s) (ownerOf owners) (priceOf prices)) e in
-    let one = neither (sheetRefusal s) (ownersRefusal (agentsOf s) (choresOf s) owners orElse pricesRefusal (choresOf s) prices) (both .0) in
-    let two = neither (ownersRefusal (agentsOf s) (choresOf s) owners) (pricesRefusal (choresOf s) prices) (one .1) in
+    let one = or-else-zero (sheetRefusal s) (ownersRefusal (agentsOf s) (choresOf s) owners orElse pricesRefusal (choresOf s) prices) (both .0) in
+    let two = or-else-zero (ownersRefusal (agentsOf s) (choresOf s) owners) (pricesRefusal (choresOf s) prices) (one .1) in
     record {
       sheet-ok = one .0;
       owners-fit = two .0;
@@ -53,14 +55,14 @@ accepted-list s owners prices e =
 pub accepted-check : {s owners prices : List ℕ} → AcceptedList s owners prices → priceCheck s owners prices ≡ accepted
 unfolding priceCheck priceRefusal unlessRefused
 accepted-check {s} {owners} {prices} a =
-    rw (neither-given (a .sheet-ok) (neither-given (a .owners-fit) (a .prices-fit))) (accepted-intro (asMarked s) (ownerOf owners) (priceOf prices) (a .priced))
+    rw (or-else-none (a .sheet-ok) (or-else-none (a .owners-fit) (a .prices-fit))) (accepted-intro (asMarked s) (ownerOf owners) (priceOf prices) (a .priced))
 
 module _ (s owners prices : List ℕ) (a : AcceptedList s owners prices) where
   weighted : Weighted (asMarked s)
   unfolding asMarked
   weighted =
-      let w = sheet-weights s (a .sheet-ok) in
-      record { easy-positive = w .easy-positive; easy-least = le-of-lt (w .easy-less) }
+      let v = valid s (a .sheet-ok) in
+      record { easy-positive = v .easyPositive; easy-least = le-of-lt (v .easier) }
 
   bought : Bought (asMarked s) (ownerOf owners) (priceOf prices)
   unfolding asMarked
@@ -92,5 +94,5 @@ pub accepted-holds : (s owners prices : List ℕ) → priceCheck s owners prices
 unfolding listCheck listRefusal unlessRefused
 accepted-holds s owners prices e lent l =
     let a = accepted-list s owners prices e in
-    rw (neither-given (a .sheet-ok) (neither-given (a .owners-fit) (lent-ok {needed = choresOf s} {lent = lent} l)))
+    rw (or-else-none (a .sheet-ok) (or-else-none (a .owners-fit) (lent-ok {needed = choresOf s} {lent = lent} l)))
     (verdict-holds (asMarked s) (ownerOf owners) (accepted-even s owners prices a) (accepted-not-wasteful s owners prices a))

@@ -5,7 +5,7 @@ pub mod Evenness
 pub mod Accepted
 pub mod PriceVerdict
 pub mod ListVerdict
-pub mod Peel
+pub mod NotRefused
 pub mod AcceptedSheet
 pub mod Taint
 pub mod Wasteless

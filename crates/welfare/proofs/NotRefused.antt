@@ -1,4 +1,5 @@
--- What a call that is not turned down is given: each refusal's condition fails.
+-- What refusals 6, 7, 10 and 8 of 0 mean.
+-- Assumes nothing.
 use Prim.Native.Nat.{ℕ, suc, _≤_, _<_}
 use mathlib.Core.Bool.{Bool, true, false, cond, not, _&&_, _||_}
 use mathlib.Core.List.{List}
@@ -16,42 +17,10 @@ use Rattle.model.specs.Fairness.{ownersInRange}
 use Rattle.model.specs.Refusals.{_orElse_, sheetRefusal, ownersRefusal, pricesInRange, pricesRefusal, lentRefusal}
 use Rattle.welfare.proofs.Allocations.{owner-below}
 
--- no refusal: neither of the two
-pub neither : (k l : ℕ) → k orElse l ≡ 0 → (k ≡ 0) × (l ≡ 0)
-unfolding _orElse_
-neither k l e =
-    by-test (eqb k 0)
-    (λ h. (eqb-true k 0 h, rw h at e))
-    (λ h. absurd (eqb-false k 0 h (rw h at e)))
-
-pub neither-given : {k l : ℕ} → k ≡ 0 → l ≡ 0 → k orElse l ≡ 0
-unfolding _orElse_
-neither-given {k} {l} e f = rw (eq-eqb k 0 e) f
-
 -- no refusal: its condition fails, and there is none further on
 peel : (t : Bool) (k r : ℕ) → cond t (suc k) r ≡ 0 → (t ≡ false) × (r ≡ 0)
 peel true k r e = absurd (omega arith)
 peel false k r e = (refl, e)
-
--- the weights of a sheet that is not turned down
-pub record SheetWeights (s : List ℕ) : Type 0 where
-  pub easy-positive : 0 < easyWeight s
-  pub easy-less : easyWeight s < difficultWeight s
-
-pub sheet-weights : (s : List ℕ) → sheetRefusal s ≡ 0 → SheetWeights s
-unfolding sheetRefusal
-sheet-weights s e =
-    let short = peel (ltb (length s) 6) 4 _ e in
-    let agents = peel (eqb (agentsOf s) 0 || ltb maxAgents (agentsOf s)) 0 _ (short .1) in
-    let chores = peel (ltb maxChores (choresOf s)) 1 _ (agents .1) in
-    let order : Bool = leb (difficultWeight s) (easyWeight s) || ltb maxWeight (difficultWeight s) in
-    let weights = peel (eqb (easyWeight s) 0 || order) 2 _ (chores .1) in
-    let one = or-none (eqb (easyWeight s) 0) order (weights .0) in
-    let two = or-none (leb (difficultWeight s) (easyWeight s)) (ltb maxWeight (difficultWeight s)) (one .1) in
-    record {
-      easy-positive = omega (arith, eqb-false (easyWeight s) 0 (one .0));
-      easy-less = leb-false (difficultWeight s) (easyWeight s) (two .0);
-    }
 
 pub owners-ok : (n m : ℕ) (owners : List ℕ) → ownersRefusal n m owners ≡ 0 → (c : ℕ) → c < m → ownerOf owners c < n
 unfolding ownersRefusal

@@ -1,0 +1,3 @@
+pub mod OrElse
+pub mod Marks
+pub mod Refusal

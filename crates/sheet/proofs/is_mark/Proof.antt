@@ -1,0 +1,16 @@
+-- `sheet::is_mark` meets its contract, by cases on the first test.
+use borrow.Author.Tests.{eq-eqb, ne-eqb}
+use Rattle.model.specs.Refusals.{isMark}
+use Rattle.sheet.proofs.is_mark.Statement.{statement}
+use Rattle.sheet.proofs.is_mark.Tie as tie
+
+returns : tie.Need-returns
+unfolding isMark
+returns c = rw (eq-eqb _ _ (c .if1 .taken))
+
+returns-2 : tie.Need-returns-2
+unfolding isMark
+returns-2 c = rw (ne-eqb _ _ (c .if1 .left))
+
+pub is-mark-spec : {M : Type 1} → statement M
+is-mark-spec = tie.close (tie.spec returns returns-2)

@@ -1,0 +1,3 @@
+pub mod Valid
+pub mod Readers
+pub mod Parts

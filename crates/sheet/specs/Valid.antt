@@ -1,0 +1,21 @@
+-- What "refusal 0" of a sheet means, fact by fact. The laws `valid` and `accepted` say that it means just this.
+use Prim.Native.Nat.{ℕ, _≤_, _<_}
+use mathlib.Core.Bool.{true}
+use mathlib.Core.List.{List}
+use mathlib.Core.Path.{_≡_}
+use lib.ListN.{length}
+use Rattle.model.specs.Limits.{maxAgents, maxChores, maxWeight}
+use Rattle.model.specs.Sheet.{agentsOf, choresOf, easyWeight, difficultWeight, sheetLength, markAt}
+use Rattle.model.specs.Refusals.{isMark}
+
+pub record Valid (s : List ℕ) : Type 0 where
+  -- the header is there
+  pub header : 6 ≤ length s
+  pub someAgent : 0 < agentsOf s
+  pub agentsFit : agentsOf s ≤ maxAgents
+  pub choresFit : choresOf s ≤ maxChores
+  pub easyPositive : 0 < easyWeight s
+  pub easier : easyWeight s < difficultWeight s
+  pub weightFits : difficultWeight s ≤ maxWeight
+  pub long : length s ≡ sheetLength s
+  pub marks : (i c : ℕ) → i < agentsOf s → c < choresOf s → isMark (markAt s i c) ≡ true
