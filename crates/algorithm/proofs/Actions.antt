@@ -1,18 +1,16 @@
 -- Which action a state calls for, case by case, and what a step then comes to.
 -- Assumes nothing.
-use Prim.Native.Nat.{ℕ, _<_}
-use mathlib.Core.Bool.{Bool, true, false, cond, _&&_}
-use mathlib.Core.Path.{_≡_, sym, ap, _∙_}
+use Prim.Native.Nat.{_<_}
+use mathlib.Core.Bool.{true, false}
+use mathlib.Core.Path.{_≡_, ap, _∙_}
 use native.Mathlib.Omega.{arith}
-use lib.Dec.{eqb, ltb}
 use borrow.Author.Tests.{lt-ltb, eq-eqb, ne-eqb}
 use Rattle.finite.specs.Search.{anyBelow}
-use Rattle.finite.proofs.Tests.{by-test, cond-true, cond-false}
-use Rattle.finite.proofs.Below.{by-less}
+use Rattle.finite.proofs.Tests.{cond-true, cond-false}
 use Rattle.model.specs.Instance.{Instance}
 use Rattle.model.specs.Step2a.{giver2a, receiver2a, due2a, chore2a}
 use Rattle.model.specs.Step2b.{above, due2b, giver2b, receiver2b, chore2b}
-use Rattle.model.specs.Algorithm.{State, Action, hand, pass, cut, stop, lack, owner, price, group, isEntitled, action2a, action2b, action, result, step}
+use Rattle.model.specs.Algorithm.{State, Action, hand, pass, cut, stop, owner, price, group, isEntitled, action2a, action2b, action, result, step}
 
 module _ (I : Instance) (s : State) where
   pub stepped : {a : Action} → action I s ≡ a → step I s ≡ result I s a

@@ -1,14 +1,13 @@
 -- The opening state is a reached one. Of the opening no more is used than `Opened` says.
 -- Assumes nothing.
-use Prim.Native.Nat.{ℕ, _+_, _-_, _*_, _≤_, _<_}
-use mathlib.Core.Bool.{Bool, false}
+use Prim.Native.Nat.{ℕ, _-_, _*_, _<_}
+use mathlib.Core.Bool.{false}
 use mathlib.Core.Path.{_≡_, refl, ap}
 use native.Mathlib.Nat.{le-of-eq}
 use native.Mathlib.Omega.{arith}
 use lib.Dec.{ltb}
 use borrow.Author.Tests.{le-ltb}
 use Rattle.finite.proofs.Counts.{count-none}
-use Rattle.finite.proofs.Lists.{Picks}
 use Rattle.model.specs.Instance.{Instance}
 use Rattle.model.specs.Algorithm.{State, owner, price, group, isEntitled, opening}
 use Rattle.algorithm.specs.Kinds.{Sound}

@@ -143,7 +143,6 @@ module _ {I : Instance} {x p group : ℕ → ℕ} {cut : ℕ → Bool} (S : Soun
         becomes-loaded a = record {
           distance = d .distance;
           member = d .receiver;
-          grouped = g;
           near = rings-forth d v far t u (le-refl t) (d .receiver) (d .near);
           loaded = a;
           others = λ i hi gi ne. still-low i (quiet-not-giver q i gi) ne (q .quiet i hi gi);

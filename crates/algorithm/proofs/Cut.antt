@@ -23,12 +23,6 @@ use Rattle.algorithm.proofs.Rings.{least-low, not-due, reachable-closed
 use Rattle.algorithm.proofs.Calm.{free-uncut}
 use Rattle.algorithm.proofs.Rising.{least-reachable}
 
--- somebody is reachable
-pub reached-some : (I : Instance) (x p : ℕ → ℕ) → 0 < I .n → Hit (I .n) (reachable I x p)
-reached-some I x p some =
-    let l = least-low I x p some in
-    record { index = l .index; below = l .below; passes = least-reachable I x p some (l .index) (l .value) }
-
 -- whoever is out of reach has more than the least sum
 pub unreached-sum : (I : Instance) (x p : ℕ → ℕ) → 0 < I .n → (i : ℕ) → i < I .n → reachable I x p i ≡ false → leastSum I x p < priceSum (I .m) x p i
 unreached-sum I x p some i h r =

@@ -34,6 +34,14 @@ module _ {I : Instance} (S : Sound I) where
   good-next (done s) g = g
   good-next (lacking s) g = g
 
+  -- a step that goes on lowers the number
+  pub step-falls : {s t : State} → Reached I s → step I s ≡ busy t → stepNumber I t < stepNumber I s
+  step-falls {s} {t} R e = go (steps R S)
+    where
+      go : Steps I s → stepNumber I t < stepNumber I s
+      go (ended f even) = let z : _≡_ {A = ℕ} 0 1 = cc in absurd (omega arith)
+      go (went u f U falls) = let same : u ≡ t = cc in subst (λ v. stepNumber I v < stepNumber I s) same falls
+
   module _ (R : Reached I (opening I)) where
     good : (k : ℕ) → Good I (after I k)
     unfolding after Good

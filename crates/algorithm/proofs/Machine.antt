@@ -1,39 +1,35 @@
 -- One step of Algorithm 1 from a reached state: it ends, or it comes to a reached state with a smaller number. It never lacks a chore.
 -- Assumes nothing.
-use Prim.Native.Nat.{ℕ, _+_, _-_, _*_, _≤_, _<_, zero-le}
-use mathlib.Core.Bool.{Bool, true, false, cond, _&&_}
-use mathlib.Core.Path.{_≡_, refl, sym, ap, subst, _∙_}
+use Prim.Native.Nat.{ℕ, _+_, _-_, _*_, _≤_, _<_}
+use mathlib.Core.Bool.{true, false}
+use mathlib.Core.Path.{_≡_, sym, ap, subst, _∙_}
 use native.Mathlib.Nat.{mul-le-mul-right}
 use native.Mathlib.Omega.{arith}
-use lib.Dec.{eqb, ltb}
-use borrow.Author.Tests.{ltb-true, ltb-false, lt-ltb, eq-eqb, ne-eqb}
+use lib.Dec.{eqb}
+use borrow.Author.Tests.{ltb-true, ltb-false, eq-eqb, ne-eqb}
 use Rattle.finite.specs.Search.{anyBelow}
-use Rattle.finite.specs.Sums.{countTo}
-use Rattle.finite.proofs.Tests.{by-test, clash, cond-true, cond-false, and-intro}
+use Rattle.finite.proofs.Tests.{by-test, clash, cond-true, cond-false}
 use Rattle.finite.proofs.Below.{by-less}
 use Rattle.finite.proofs.Search.{Hit, any-elim, any-intro, any-none}
 use Rattle.finite.proofs.Fibres.{Moves}
-use Rattle.finite.proofs.Extremes.{Low}
 use Rattle.model.specs.Instance.{Instance}
 use Rattle.model.specs.Prices.{priceSum, priceUpToOne}
 use Rattle.model.specs.Step2a.{giver2a, receiver2a, due2a, chore2a}
 use Rattle.model.specs.Step2b.{leastSum, above, within, reachable, due2b, ring2b, giver2b, receiver2b, chore2b}
-use Rattle.model.specs.Algorithm.{State, Outcome, busy, done, Action, hand, pass, cut, stop, owner, price, group, isEntitled, action2a, action2b, action, handed, passed, inNewGroup, afterCut, result, step}
+use Rattle.model.specs.Algorithm.{State, busy, done, hand, pass, cut, stop, owner, price, group, isEntitled, action, handed, passed, inNewGroup, afterCut, result, step}
 use Rattle.algorithm.specs.Kinds.{Sound}
 use Rattle.algorithm.specs.Core.{Core}
-use Rattle.algorithm.specs.Due.{Due}
-use Rattle.algorithm.specs.Phases.{Entitled, Stage, Began, Quiet, Calm, calm}
-use Rattle.algorithm.specs.Stages.{DueA, ownedBy}
+use Rattle.algorithm.specs.Phases.{Entitled, Stage, Calm, calm}
+use Rattle.algorithm.specs.Stages.{ownedBy}
 use Rattle.algorithm.specs.Cuts.{NextRound}
 use Rattle.algorithm.specs.Measure.{measure2b, measureTop}
 use Rattle.algorithm.specs.Theorem.{CleanCut}
-use Rattle.algorithm.specs.Reached.{roundTop, moveTop, placeNumber, stepNumber, Shaped, Since, Place, in2a, in2b, Reached}
-use Rattle.algorithm.proofs.UpToOne.{up-le}
+use Rattle.algorithm.specs.Reached.{roundTop, placeNumber, stepNumber, Shaped, Since, Place, in2a, in2b, Reached}
 use Rattle.algorithm.proofs.Best.{price-positive, price-bound, core-moved}
 use Rattle.algorithm.proofs.Rings.{least-low, due-found}
 use Rattle.algorithm.proofs.Measure.{measure2b-top, measure2b-falls}
 use Rattle.algorithm.proofs.Calm.{entitled-moved, calm-uncut, calm-moved, calm-ends}
-use Rattle.algorithm.proofs.Stage.{stage-due, stage-moved, stage-core, stage-falls, owned-le, stage-passed, stage-quiet, stage-began}
+use Rattle.algorithm.proofs.Stage.{stage-due, stage-apart, stage-moved, stage-core, stage-falls, owned-le, stage-passed, stage-quiet, stage-began}
 use Rattle.algorithm.proofs.Rising.{cuts-rise}
 use Rattle.algorithm.proofs.Cut.{apart}
 use Rattle.algorithm.proofs.NextRound.{next-round}
@@ -45,7 +41,7 @@ pub data Steps (I : Instance) (s : State) : Type 0 where
   ended : step I s ≡ done s → ((i j : ℕ) → i < I .n → j < I .n → priceUpToOne (I .m) (owner I s) (price I s) i ≤ priceSum (I .m) (owner I s) (price I s) j) → Steps I s
   went : (t : State) → step I s ≡ busy t → Reached I t → stepNumber I t < stepNumber I s → Steps I s
 
--- a stage that is left is more than the place that follows
+-- a place's number is at most that of its stage with all chores in the group at work
 place-under : (I : Instance) (s : State) → measure2b I (owner I s) (price I s) ≤ measureTop I → placeNumber I s ≤ measureTop I + (s .stage * (I .m + 1) + I .m)
 unfolding placeNumber
 place-under I s top =
@@ -180,7 +176,7 @@ module _ {I : Instance} {s : State} (R : Reached I s) where
         let j = receiver2a I x p (group I s) (isEntitled I s) g in
         let c = chore2a I x p (group I s) (isEntitled I s) g in
         let v : Moves (I .m) x (owner I (handed I s c j)) c i j =
-        handed-moves (R .shaped) c i j (d .chore) (d .owned) (λ q. omega (arith, ap (group I s) q, d .atWork, d .later)) in
+        handed-moves (R .shaped) c i j (d .chore) (d .owned) (stage-apart d) in
         let t = handed I s c j in
         let number : stepNumber I t < stepNumber I s =
         handed-falls c j (omega (arith, in2a-number I s some, in2a-number I t some, stage-falls d v)) in

@@ -83,7 +83,7 @@ module _ (I : Instance) (x p : ℕ → ℕ) where
     unfolding fall
     fall-total = omega (arith, least-total)
 
--- 32 rounds of it stay below 2 ^ 59
+-- the bound, in numbers
 pub measureTop-small : (I : Instance) → I .n ≤ 32 → I .m ≤ 4000 → I .b ≤ 1000 → measureTop I < 2 ^ 54
 unfolding measureTop spreadTop
 measureTop-small I n m b =

@@ -121,6 +121,3 @@ module _ (I : Instance) where
         priced = opening-price;
         easyWhereCan = λ c h e. rw (opening-owner c h) (owner-easy c e .1);
       }
-
-  pub core-opening : Sound I → Core I (owner I (opening I)) (price I (opening I)) (group I (opening I)) (isEntitled I (opening I))
-  core-opening S = core-opened (opening-opened (S .some)) S opening-group opening-entitled

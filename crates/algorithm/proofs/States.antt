@@ -1,13 +1,12 @@
 -- What a move and a cut do to a state of lists, in the terms of owners, prices, groups and entitled chores.
 -- Assumes nothing.
-use Prim.Native.Nat.{ℕ, _+_, _-_, _*_, _/_, _<_}
+use Prim.Native.Nat.{ℕ, _+_, _-_, _<_}
 use mathlib.Core.Bool.{Bool, true, false, cond, _||_}
 use mathlib.Core.Path.{_≡_, refl, sym, ap, _∙_}
 use native.Mathlib.Omega.{arith}
 use lib.Dec.{eqb}
-use lib.ListN.{length, getD, set, length-set}
+use lib.ListN.{getD, length-set}
 use lib.Seq.{getD-set-same, getD-set-other}
-use Rattle.finite.proofs.Tests.{by-test}
 use Rattle.finite.proofs.Below.{by-same}
 use Rattle.finite.proofs.Fibres.{Moves}
 use Rattle.finite.proofs.Lists.{tab-length, tab-at}

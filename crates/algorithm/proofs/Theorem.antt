@@ -1,30 +1,30 @@
 -- Demand 3: the theorem on Algorithm 1, for every sheet that breaks no rule.
 -- Assumes nothing.
-use Prim.Native.Nat.{ℕ, _+_, _*_, _≤_, _<_}
-use mathlib.Core.Bool.{Bool, true, false, cond}
+use Prim.Native.Nat.{ℕ, _*_, _<_}
+use mathlib.Core.Bool.{Bool}
 use mathlib.Core.List.{List}
 use mathlib.Core.Logic.{_⊎_, inl, inr}
-use mathlib.Core.Path.{_≡_}
+use mathlib.Core.Path.{_≡_, subst}
 use native.Mathlib.Omega.{arith}
 use Rattle.finite.proofs.Tests.{by-test}
 use Rattle.finite.proofs.Lists.{Picks}
 use Rattle.model.specs.Instance.{Instance, ownerOf}
 use Rattle.model.specs.Sheet.{asMarked, asRead}
-use Rattle.model.specs.Fairness.{isAllocation}
-use Rattle.model.specs.Algorithm.{State, cut, owner, price, group, isEntitled, action, inNewGroup, afterCut}
+use Rattle.model.specs.Algorithm.{State, Ends}
 use Rattle.model.specs.Refusals.{sheetRefusal}
 use Rattle.model.specs.Promises.{Demand3}
+use Rattle.model.proofs.Unique.{unique}
 use Rattle.welfare.proofs.Allocations.{picks-allocation}
 use Rattle.welfare.proofs.AcceptedSheet.{accepted-fair}
 use Rattle.algorithm.specs.Kinds.{dear, kindPrice}
 use Rattle.algorithm.specs.Core.{Core}
 use Rattle.algorithm.specs.Reached.{moveTop, Reached}
-use Rattle.algorithm.specs.Theorem.{CleanCut, Theorem}
+use Rattle.algorithm.specs.Theorem.{Theorem}
 use Rattle.algorithm.proofs.Reading.{sheet-sound}
 use Rattle.algorithm.proofs.End.{check-accepted}
 use Rattle.algorithm.proofs.Machine.{fewer-cuts, clean-cut}
 use Rattle.algorithm.proofs.Begin.{opening-reached}
-use Rattle.algorithm.proofs.Ending.{Ended, run-ends, reached, never-lacking, done-reached, done-even}
+use Rattle.algorithm.proofs.Ending.{run-ends, reached, never-lacking, done-reached, done-even}
 
 -- a reached state's owners are m numbers from 1 to n
 picks : {I : Instance} {s : State} → Reached I s → Picks (I .n) (I .m) (s .owners)
@@ -71,3 +71,10 @@ theorem s valid =
       clean = λ k y e q. clean-cut (reached S O k y e) S q;
       moves = omega (arith, R .budget);
     }
+
+-- the result is unique, so whatever run ends, demand 3 holds of its state
+pub demand3-of : (s : List ℕ) → sheetRefusal s ≡ 0 → (x : State) → Ends (asRead s) x → Demand3 s x
+demand3-of s valid x E =
+    let T = theorem s valid in
+    let F = T .demand3 .ends in
+    subst (Demand3 s) (unique (asRead s) (F .steps) (E .steps) (T .final) x (F .ends) (E .ends)) (T .demand3)

@@ -118,9 +118,6 @@ module _ {m : ℕ} {x y : ℕ → ℕ} {k w u : ℕ} (v : Moves m x y k w u) (p 
   pub take-up : priceUpToOne m y p u ≤ priceSum m x p u
   take-up = omega (arith, up-off m y p u k (v .below) (v .target), take-sum)
 
-  pub take-raises : priceUpToOne m x p u ≤ priceUpToOne m y p u
-  take-raises = omega (arith, up-dearest m x p u, up-dearest m y p u, take-sum, take-dearest)
-
   -- what comes is as dear as anything held: price-one becomes the old sum
   pub take-top : ((c : ℕ) → c < m → x c ≡ u → p c ≤ p k) → priceUpToOne m y p u ≡ priceSum m x p u
   take-top h = omega (arith, up-top m y p u k (v .below) (v .target) top, take-sum)

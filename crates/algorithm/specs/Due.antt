@@ -1,6 +1,6 @@
 -- The facts of a due move of step 2b, whatever search found it.
 use Prim.Native.Nat.{ℕ, suc, _<_, _≤_}
-use mathlib.Core.Bool.{Bool, true, false}
+use mathlib.Core.Bool.{true, false}
 use mathlib.Core.Path.{_≡_}
 use Rattle.model.specs.Instance.{Instance}
 use Rattle.model.specs.Prices.{best, priceUpToOne}

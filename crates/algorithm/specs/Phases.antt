@@ -42,11 +42,10 @@ module _ (I : Instance) (p group : ℕ → ℕ) (cut : ℕ → Bool) where
   pub record Quiet (x : ℕ → ℕ) : Type 0 where
     pub quiet : (i : ℕ) → i < I .n → 0 < group i → priceUpToOne (I .m) x p i ≤ leastSum I x p
 
-  -- one member u of a group, at distance t or less, is above the least sum, and is about to give away what it just received
+  -- one member u of a group, at distance t or less, is above the least sum, and gives next
   pub record Loaded (x : ℕ → ℕ) (u t : ℕ) : Type 0 where
     pub distance : t < I .n
     pub member : u < I .n
-    pub grouped : 0 < group u
     pub near : within I x p t u ≡ true
     pub loaded : leastSum I x p < priceUpToOne (I .m) x p u
     pub others : (i : ℕ) → i < I .n → 0 < group i → (i ≡ u → ⊥) → priceUpToOne (I .m) x p i ≤ leastSum I x p

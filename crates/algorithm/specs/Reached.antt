@@ -1,6 +1,6 @@
 -- What holds of every state that a run of Algorithm 1 reaches, and the number that falls with each of its steps.
 use Prim.Native.Nat.{ℕ, _+_, _*_, _-_, _≤_, _<_}
-use mathlib.Core.Bool.{Bool, cond}
+use mathlib.Core.Bool.{cond}
 use mathlib.Core.Path.{_≡_}
 use lib.Dec.{eqb, ltb}
 use lib.ListN.{length, getD}
@@ -40,7 +40,7 @@ module _ (I : Instance) (s : State) where
     pub entitled : length (s .entitled) ≡ I .m
     pub numbered : (c : ℕ) → c < I .m → 0 < getD (s .owners) c 0
 
-  -- Where 2b began in this round. `top` is 0 before the first cut.
+  -- Where 2b began in this round, asked for where `top` is above 0.
   pub record Since (top : ℕ) : Type 0 where
     pub began : ℕ → ℕ
     pub facts : Began I (price I s) (group I s) (isEntitled I s) began top

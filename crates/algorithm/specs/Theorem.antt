@@ -6,7 +6,7 @@ use mathlib.Core.Logic.{_⊎_}
 use mathlib.Core.Path.{_≡_}
 use Rattle.model.specs.Instance.{Instance}
 use Rattle.model.specs.Sheet.{choresOf, easyWeight, difficultWeight, asRead}
-use Rattle.model.specs.Algorithm.{State, busy, Action, cut, owner, price, group, action, inNewGroup, afterCut, after}
+use Rattle.model.specs.Algorithm.{State, busy, cut, owner, price, group, action, inNewGroup, afterCut, after}
 use Rattle.model.specs.Promises.{Demand3}
 use Rattle.algorithm.specs.Reached.{moveTop}
 

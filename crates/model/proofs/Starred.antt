@@ -1,7 +1,6 @@
 -- The starred cases of document 01, with one theorem over them about the definitions, so that a wrong definition is refused here.
 -- Assumes nothing.
 use Prim.Native.Nat.{ℕ}
-use Prim.Native.String.{String}
 use mathlib.Core.List.{List, [], _∷_}
 use mathlib.Core.Path.{refl}
 use Rattle.finite.specs.Sums.{sumTo, maxTo, minTo, sumWhere, maxWhere}

@@ -3,9 +3,9 @@
 use Prim.Native.Nat.{ℕ, zero, suc, _+_}
 use native.Mathlib.Nat.{add-comm, add-suc, add-zero}
 use native.Mathlib.Omega.{arith}
-use mathlib.Core.Path.{_≡_, refl, sym, ap, _∙_}
+use mathlib.Core.Path.{_≡_, sym, ap, _∙_}
 use Rattle.model.specs.Instance.{Instance}
-use Rattle.model.specs.Algorithm.{State, Outcome, done, lacking, next, after}
+use Rattle.model.specs.Algorithm.{State, done, lacking, next, after}
 
 module _ (I : Instance) where
   -- one step more changes nothing

@@ -1,7 +1,7 @@
 -- What each public call promises, refused or not. In each record plain names are the lists as handed in, and primed ones the same memory when
 -- the call returns. `sheet_refusal` promises `r ≡ sheetRefusal sheet`, and the price check, which lends nothing, `PricesChecked`.
 use Prim.Native.Nat.{ℕ, _<_, _-_}
-use mathlib.Core.Bool.{Bool, true, false, cond}
+use mathlib.Core.Bool.{true, false, cond}
 use mathlib.Core.List.{List, []}
 use mathlib.Core.Path.{_≡_}
 use lib.Dec.{eqb}
@@ -10,13 +10,12 @@ use Rattle.model.specs.declared.ShareOut.{ShareOut}
 use Rattle.model.specs.declared.ListVerdict.{ListVerdict}
 use Rattle.model.specs.declared.PriceVerdict.{PriceVerdict}
 use Rattle.model.specs.declared.SheetResult.{SheetResult}
-use Rattle.model.specs.declared.SheetEntry.{SheetEntry}
 use Rattle.model.specs.declared.BookResult.{BookResult}
 use Rattle.model.specs.Instance.{ownerOf}
 use Rattle.model.specs.Sheet.{agentsOf, choresOf, asMarked, asRead}
 use Rattle.model.specs.Contents.{sheetCount, sheetOf}
 use Rattle.model.specs.Fairness.{ef1, dominates, isAllocation}
-use Rattle.model.specs.Algorithm.{State, Outcome, lacking, after, Ends}
+use Rattle.model.specs.Algorithm.{State, lacking, after, Ends}
 use Rattle.model.specs.Refusals.{allocateRefusal, lookupRefusal, bookRefusal}
 use Rattle.model.specs.Replies.{Reply, refused, shared, wasteful, accepted, shareOutReply, listReply, priceReply, sheetReply}
 use Rattle.model.specs.Verdicts.{listCheck, priceCheck}

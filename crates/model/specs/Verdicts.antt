@@ -3,7 +3,6 @@ use Prim.Native.Nat.{ℕ, _+_}
 use mathlib.Core.Bool.{Bool, cond, not, _&&_}
 use mathlib.Core.List.{List}
 use lib.Dec.{eqb, ltb}
-use lib.ListN.{length}
 use Rattle.finite.specs.Search.{anyBelow, firstBelow}
 use Rattle.model.specs.Instance.{Instance, ownerOf, priceOf}
 use Rattle.model.specs.Sheet.{asMarked}

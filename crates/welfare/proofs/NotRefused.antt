@@ -1,20 +1,19 @@
 -- What refusals 6, 7, 10 and 8 of 0 mean.
 -- Assumes nothing.
 use Prim.Native.Nat.{ℕ, suc, _≤_, _<_}
-use mathlib.Core.Bool.{Bool, true, false, cond, not, _&&_, _||_}
+use mathlib.Core.Bool.{Bool, true, false, cond, not, _&&_}
 use mathlib.Core.List.{List}
 use mathlib.Core.Path.{_≡_, refl}
 use native.Mathlib.Omega.{arith}
 use lib.Dec.{eqb, leb, ltb}
 use lib.ListN.{length, getD}
-use borrow.Author.Tests.{eqb-true, eqb-false, ltb-true, leb-false, eq-eqb, le-ltb, not-false}
-use Rattle.finite.proofs.Tests.{by-test, and-elim, or-none}
+use borrow.Author.Tests.{ltb-true, le-ltb, not-false}
+use Rattle.finite.proofs.Tests.{and-elim, or-none}
 use Rattle.finite.proofs.Search.{all-elim}
-use Rattle.model.specs.Limits.{maxAgents, maxChores, maxWeight, maxPrice}
+use Rattle.model.specs.Limits.{maxPrice}
 use Rattle.model.specs.Instance.{ownerOf, priceOf}
-use Rattle.model.specs.Sheet.{agentsOf, choresOf, easyWeight, difficultWeight}
 use Rattle.model.specs.Fairness.{ownersInRange}
-use Rattle.model.specs.Refusals.{_orElse_, sheetRefusal, ownersRefusal, pricesInRange, pricesRefusal, lentRefusal}
+use Rattle.model.specs.Refusals.{ownersRefusal, pricesInRange, pricesRefusal, lentRefusal}
 use Rattle.welfare.proofs.Allocations.{owner-below}
 
 -- no refusal: its condition fails, and there is none further on
