@@ -1,0 +1,11 @@
+pub mod GivenLaws
+pub mod ListTests
+pub mod ListSums
+pub mod ListRings
+pub mod ListWalk
+pub mod ListChecks
+pub mod PricesRefusal
+pub mod PricesRatio
+pub mod PricesSums
+pub mod PricesEnvy
+pub mod PricesOff
