@@ -11,3 +11,4 @@ pub mod Chosen
 pub mod Running
 pub mod Reach
 pub mod Distances
+pub mod Bits

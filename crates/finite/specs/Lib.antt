@@ -2,3 +2,4 @@ pub mod Sums
 pub mod Search
 pub mod Lists
 pub mod Reach
+pub mod Bits

@@ -1,0 +1,4 @@
+pub mod Ready
+pub mod Looking
+pub mod Turned
+pub mod Run

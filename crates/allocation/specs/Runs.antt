@@ -1,0 +1,26 @@
+-- The loop of the share-out: it holds a state that a run of Algorithm 1 comes to.
+use Prim.Native.Nat.{ℕ}
+use mathlib.Core.List.{List}
+use mathlib.Core.Path.{_≡_}
+use lib.ListN.{length}
+use Rattle.model.specs.Sheet.{asRead}
+use Rattle.model.specs.Algorithm.{busy, after, Ends}
+use Rattle.sheet.specs.Valid.{Valid}
+use Rattle.market.specs.Market.{Liked}
+use Rattle.allocation.specs.Turns.{stateOf}
+
+pub record Running (s owners prices groups entitled : List ℕ) (moves cuts stage : ℕ) : Type 0 where
+  pub count : ℕ
+  pub comes : after (asRead s) count ≡ busy (stateOf owners prices groups entitled moves cuts stage)
+
+-- what the loop is given beside the run
+pub record Kit (s likes sums ups : List ℕ) : Type 0 where
+  pub valid : Valid s
+  pub liking : Liked (asRead s) likes
+  pub sumsSized : length sums ≡ 32
+  pub upsSized : length ups ≡ 32
+
+-- the run has ended with these lists and counters
+pub record RunEnds (s owners prices groups entitled : List ℕ) (moves cuts : ℕ) : Type 0 where
+  pub stage : ℕ
+  pub ends : Ends (asRead s) (stateOf owners prices groups entitled moves cuts stage)

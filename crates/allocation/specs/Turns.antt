@@ -1,0 +1,44 @@
+-- What a turn of the loop is given, and what it names: one step of Algorithm 1 on a state of lists.
+use Prim.Native.Nat.{ℕ, _+_, _-_, _<_}
+use mathlib.Core.List.{List}
+use mathlib.Core.Path.{_≡_}
+use lib.ListN.{length, getD}
+use Rattle.model.specs.Instance.{ownerOf, priceOf}
+use Rattle.model.specs.Sheet.{agentsOf, choresOf, asRead}
+use Rattle.model.specs.Algorithm.{State, Outcome, busy, done}
+use Rattle.sheet.specs.Valid.{Valid}
+use Rattle.algorithm.specs.Core.{Core}
+use Rattle.algorithm.specs.Reached.{Reached}
+use Rattle.market.specs.Market.{groupOf, entitledOf, Liked}
+use Rattle.allocation.specs.declared.steps.Turn.{Turn}
+use Rattle.allocation.specs.declared.steps.Turn.the-variants.{Moved, Passed, Cut, Ended}
+
+abbrev pub stateOf : List ℕ → List ℕ → List ℕ → List ℕ → ℕ → ℕ → ℕ → State
+stateOf owners prices groups entitled moves cuts stage =
+    record { owners = owners; prices = prices; groups = groups; entitled = entitled; moves = moves; cuts = cuts; stage = stage }
+
+-- the outcome of a step, over the lists that it leaves
+abbrev pub named : Turn → List ℕ → List ℕ → List ℕ → List ℕ → ℕ → ℕ → ℕ → Outcome
+named Moved owners prices groups entitled moves cuts stage = busy (stateOf owners prices groups entitled (moves + 1) cuts stage)
+named Passed owners prices groups entitled moves cuts stage = busy (stateOf owners prices groups entitled moves cuts (stage - 1))
+named Cut owners prices groups entitled moves cuts stage = busy (stateOf owners prices groups entitled moves (cuts + 1) cuts)
+named Ended owners prices groups entitled moves cuts stage = done (stateOf owners prices groups entitled moves cuts stage)
+
+-- the lists of a state with the core invariant, and the working lists of a turn
+pub record Ready (s owners prices groups entitled likes sums ups : List ℕ) : Type 0 where
+  pub valid : Valid s
+  pub ownersSized : length owners ≡ choresOf s
+  pub pricesSized : length prices ≡ choresOf s
+  pub groupsSized : length groups ≡ agentsOf s
+  pub entitledSized : length entitled ≡ choresOf s
+  pub numbered : (c : ℕ) → c < choresOf s → 0 < getD owners c 0
+  pub core : Core (asRead s) (ownerOf owners) (priceOf prices) (groupOf groups) (entitledOf entitled)
+  pub liking : Liked (asRead s) likes
+  pub sumsSized : length sums ≡ 32
+  pub upsSized : length ups ≡ 32
+
+-- a state that Algorithm 1 reaches on the sheet s
+pub record Turning (s owners prices groups entitled likes sums ups : List ℕ) (cuts stage : ℕ) : Type 0 where
+  pub ready : Ready s owners prices groups entitled likes sums ups
+  pub moves : ℕ
+  pub reached : Reached (asRead s) (stateOf owners prices groups entitled moves cuts stage)

@@ -1,0 +1,2 @@
+// The share-out: Algorithm 1 on a sheet.
+pub mod steps;

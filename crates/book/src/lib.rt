@@ -1,0 +1,3 @@
+// Books of sheets.
+
+pub mod contents;

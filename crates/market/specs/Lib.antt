@@ -1,0 +1,6 @@
+pub mod Market
+pub mod Words
+pub mod Results
+pub mod Adding
+pub mod Opened
+pub mod Cutting

@@ -1,0 +1,43 @@
+-- What the functions of a step are given: a sheet that breaks no rule, the lists of a state, and for each chore the agents for whom it is ok.
+use Prim.Native.Nat.{ℕ, _≤_, _<_}
+use mathlib.Core.Bool.{Bool}
+use mathlib.Core.List.{List}
+use mathlib.Core.Path.{_≡_}
+use lib.Dec.{eqb}
+use lib.ListN.{length, getD}
+use Rattle.finite.specs.Bits.{SetOf}
+use Rattle.model.specs.Limits.{maxAgents, maxChores, maxPrice}
+use Rattle.model.specs.Instance.{Instance, priceOf}
+use Rattle.model.specs.Prices.{best}
+use Rattle.algorithm.specs.Kinds.{ok, wanted}
+
+-- the group of agent i, and whether chore c is entitled, in the lists of a state
+unfoldable pub groupOf : List ℕ → ℕ → ℕ
+groupOf groups i = getD groups i 0
+
+unfoldable pub entitledOf : List ℕ → ℕ → Bool
+entitledOf entitled c = eqb (getD entitled c 0) 1
+
+-- owners and prices of m chores among n agents
+pub record Held (n m : ℕ) (owners prices : List ℕ) : Type 0 where
+  pub agents : n ≤ maxAgents
+  pub chores : m ≤ maxChores
+  pub ownersSized : length owners ≡ m
+  pub pricesSized : length prices ≡ m
+  pub numbered : (c : ℕ) → c < m → 0 < getD owners c 0
+  pub known : (c : ℕ) → c < m → getD owners c 0 ≤ n
+  pub bounded : (c : ℕ) → c < m → getD prices c 0 ≤ maxPrice
+
+-- for each chore the set of agents who find it easy, or of all where nobody does
+pub record Liked (I : Instance) (likes : List ℕ) : Type 0 where
+  pub likesSized : length likes ≡ I .m
+  pub liked : (c : ℕ) → c < I .m → SetOf (I .n) (getD likes c 0) (λ i. ok I i c)
+
+-- the lists of a state of the market I, where `best` comes to `wanted`
+pub record Market (I : Instance) (owners prices groups entitled likes : List ℕ) : Type 0 where
+  pub some : 0 < I .n
+  pub held : Held (I .n) (I .m) owners prices
+  pub groupsSized : length groups ≡ I .n
+  pub entitledSized : length entitled ≡ I .m
+  pub liking : Liked I likes
+  pub wants : (j c : ℕ) → j < I .n → c < I .m → best I (priceOf prices) j c ≡ wanted I (groupOf groups) (entitledOf entitled) j c

@@ -1,0 +1,87 @@
+// The opening: who finds what easy in the share-out's reading, the first owners and prices.
+ghost use Prim.Native.Nat.{_≤_};
+ghost use mathlib.Core.Bool.{true};
+ghost use Rattle.finite.specs.Bits.{SetOf};
+ghost use Rattle.model.specs.Sheet.{asRead, allDifficult};
+ghost use Rattle.market.specs.Opened.{OpenOn, OpenIn, OpenInto, Opened};
+use crate::words::has;
+use crate::words::lowest;
+use crate::words::with;
+
+// The agents whose row is all difficult, which is read as all easy.
+pub fn liberal(sheet: &[u8], n: usize, m: usize) -> u32
+    requires { ⌜ OpenOn (now sheet) n m ⌝ }
+    ensures { λ r. ⌜ SetOf n r (allDifficult (now (sheet .entry))) ⌝ }
+{
+    let mut w = 0u32;
+    let mut i = 0;
+    while i < n {
+        if sheet::all_difficult(sheet, m, i) {
+            w = with(w, i);
+        }
+        i += 1;
+    }
+    w
+}
+
+// The agents who find chore c easy.
+fn easy_for(sheet: &[u8], n: usize, m: usize, all: u32, c: usize) -> u32
+    requires { ⌜ OpenIn (now sheet) n m all c ⌝ }
+    ensures { λ r. ⌜ SetOf n r (λ i. asRead (now (sheet .entry)) .easy i c) ⌝ }
+{
+    let mut w = 0u32;
+    let mut i = 0;
+    while i < n {
+        if sheet::marks_easy(sheet, m, i, c) || has(all, i) {
+            w = with(w, i);
+        }
+        i += 1;
+    }
+    w
+}
+
+// Everybody.
+fn everyone(n: usize) -> u32
+    requires { ⌜ n ≤ 32 ⌝ }
+    ensures { λ r. ⌜ SetOf n r (λ i. true) ⌝ }
+{
+    let mut w = 0u32;
+    let mut i = 0;
+    while i < n {
+        w = with(w, i);
+        i += 1;
+    }
+    w
+}
+
+// Owners and prices before round 1, and for each chore the agents for whom it is ok.
+pub fn open(
+    sheet: &[u8],
+    n: usize,
+    m: usize,
+    owners: &mut [u8],
+    prices: &mut [u32],
+    likes: &mut [u32],
+)
+    requires { ⌜ OpenInto (now sheet) n m (now owners) (now prices) (now likes) ⌝ }
+    ensures { λ r. ⌜ Opened (now (sheet .entry)) (now (owners .exit)) (now (prices .exit)) (now (likes .exit)) ⌝ }
+{
+    let a = sheet::easy_weight(sheet);
+    let b = sheet::difficult_weight(sheet);
+    let all = liberal(sheet, n, m);
+    let anyone = everyone(n);
+    let mut c = 0;
+    while c < m {
+        let easy = easy_for(sheet, n, m, all, c);
+        if easy == 0 {
+            owners[c] = 1;
+            prices[c] = b * b;
+            likes[c] = anyone;
+        } else {
+            owners[c] = lowest(easy, n) as u8 + 1;
+            prices[c] = a * b;
+            likes[c] = easy;
+        }
+        c += 1;
+    }
+}
