@@ -2,3 +2,5 @@ pub mod Ready
 pub mod Looking
 pub mod Turned
 pub mod Run
+pub mod Stepped
+pub mod Staged

@@ -95,7 +95,7 @@ module _ {s owners prices groups entitled likes sums ups : List ℕ} (R : Ready 
   wants j c hj hc = best-wanted sound (R .core) j c hj hc
 
   module _ {sums′ ups′ : List ℕ} (T : Summed (agentsOf s) (length owners) owners prices sums′ ups′) where
-    sum-is : (i : ℕ) → i < agentsOf s → getD sums′ i 0 ≡ priceSum (choresOf s) (ownerOf owners) (priceOf prices) i
+    pub sum-is : (i : ℕ) → i < agentsOf s → getD sums′ i 0 ≡ priceSum (choresOf s) (ownerOf owners) (priceOf prices) i
     sum-is i h = T .sum i h ∙ ap (λ m. priceSum m (ownerOf owners) (priceOf prices) i) (R .ownersSized)
 
     pub up-is : (i : ℕ) → i < agentsOf s → getD ups′ i 0 ≡ priceUpToOne (choresOf s) (ownerOf owners) (priceOf prices) i

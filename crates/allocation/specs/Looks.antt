@@ -20,10 +20,10 @@ pub record Look (s owners prices groups entitled likes ups : List ℕ) (giver be
   pub answered : Answered (agentsOf s) owners entitled likes ups least start free grouped giver before reached
   pub anyIs : any ≡ anyBelow (agentsOf s) (above (asRead s) (ownerOf owners) (priceOf prices))
 
--- the lowest agent of a ring who wants a chore of agent w
-unfoldable pub receiverFrom : ℕ → List ℕ → List ℕ → List ℕ → ℕ → ℕ → ℕ → ℕ
-receiverFrom n owners entitled likes w free grouped =
-    firstBelow n (λ j. wantsFrom owners entitled likes (length owners) w free grouped j)
+-- the lowest agent of the ring before who wants a chore of agent w
+unfoldable pub receiverFrom : ℕ → List ℕ → List ℕ → List ℕ → ℕ → ℕ → ℕ → ℕ → ℕ
+receiverFrom n owners entitled likes w before free grouped =
+    firstBelow n (λ j. wantsFrom owners entitled likes (length owners) w (bitAnd before free) (bitAnd before grouped) j)
 
 -- the lowest chore of agent w that agent u wants
 unfoldable pub choreFor : List ℕ → List ℕ → List ℕ → ℕ → ℕ → ℕ → ℕ → ℕ
@@ -31,8 +31,8 @@ choreFor owners entitled likes w u free grouped =
     firstBelow (length owners) (λ c. owns (ownerOf owners) w c && wantedByRing entitled likes (bitAnd (bitOr 0 (2 ^ u)) free) (bitAnd (bitOr 0 (2 ^ u)) grouped) c)
 
 -- the move is there
-pub record Handing (n : ℕ) (owners entitled likes : List ℕ) (w free grouped : ℕ) : Type 0 where
+pub record Handing (n : ℕ) (owners entitled likes : List ℕ) (w before free grouped : ℕ) : Type 0 where
   pub agents : n ≤ 32
   pub owned : Owned owners entitled likes
-  pub receiver : receiverFrom n owners entitled likes w free grouped < n
-  pub chore : choreFor owners entitled likes w (receiverFrom n owners entitled likes w free grouped) free grouped < length owners
+  pub receiver : receiverFrom n owners entitled likes w before free grouped < n
+  pub chore : choreFor owners entitled likes w (receiverFrom n owners entitled likes w before free grouped) free grouped < length owners

@@ -2,7 +2,9 @@
 ghost use mathlib.Core.Path.{_≡_};
 ghost use Prim.Native.Nat.{ℕ, _+_, _<_};
 ghost use lib.ListN.{length, set};
-ghost use Rattle.allocation.specs.Turns.{Ready};
+ghost use Rattle.model.specs.Sheet.{asRead};
+ghost use Rattle.model.specs.Algorithm.{step};
+ghost use Rattle.allocation.specs.Turns.{stateOf, named, Ready, Turning};
 ghost use Rattle.allocation.specs.Looks.{Look, Handing, receiverFrom, choreFor};
 use market::choices::first_free;
 use market::choices::greatest_in;
@@ -27,11 +29,6 @@ pub enum Turn {
     Passed,
     Cut,
     Ended,
-}
-
-pub struct Counts {
-    pub moves: u64,
-    pub cuts: u8,
 }
 
 // What the search of 2b found, the agents in no group and in some group, and whether anybody is above the least sum.
@@ -82,16 +79,96 @@ fn hand_over(
     entitled: &[u8],
     likes: &[u32],
     w: usize,
+    before: u32,
     free: u32,
     grouped: u32,
 )
-    requires { ⌜ Handing n (now owners) (now entitled) (now likes) w free grouped ⌝ }
+    requires { ⌜ Handing n (now owners) (now entitled) (now likes) w before free grouped ⌝ }
     ensures { λ r. ⌜ now (owners .exit) ≡ set (now (owners .entry))
-        (choreFor (now (owners .entry)) (now (entitled .entry)) (now (likes .entry)) w (receiverFrom n (now (owners .entry)) (now (entitled .entry)) (now (likes .entry)) w free grouped) free grouped)
-        (receiverFrom n (now (owners .entry)) (now (entitled .entry)) (now (likes .entry)) w free grouped + 1) ⌝ }
+        (choreFor (now (owners .entry)) (now (entitled .entry)) (now (likes .entry)) w (receiverFrom n (now (owners .entry)) (now (entitled .entry)) (now (likes .entry)) w before free grouped) free grouped)
+        (receiverFrom n (now (owners .entry)) (now (entitled .entry)) (now (likes .entry)) w before free grouped + 1) ⌝ }
 {
-    let u = lowest(wanters(owners, entitled, likes, w, free, grouped), n);
+    let u = lowest(
+        wanters(owners, entitled, likes, w, before & free, before & grouped),
+        n,
+    );
     let one = with(0, u);
     let c = first_wanted(owners, entitled, likes, w, one & free, one & grouped);
     owners[c] = u as u8 + 1;
+}
+
+// Step 2b, and step 3 where 2b has ended.
+fn step_2b(
+    sheet: &[u8],
+    owners: &mut [u8],
+    prices: &mut [u32],
+    groups: &mut [u8],
+    entitled: &mut [u8],
+    likes: &[u32],
+    sums: &mut [u32],
+    ups: &mut [u32],
+    cuts: u8,
+) -> Turn
+    requires { ⌜ Turning (now sheet) (now owners) (now prices) (now groups) (now entitled) (now likes) (now sums) (now ups) cuts 0 ⌝ }
+    ensures { λ r. ⌜ ((moves : ℕ) → step (asRead (now (sheet .entry))) (stateOf (now (owners .entry)) (now (prices .entry)) (now (groups .entry)) (now (entitled .entry)) moves cuts 0)
+        ≡ named r (now (owners .exit)) (now (prices .exit)) (now (groups .exit)) (now (entitled .exit)) moves cuts 0) ⌝ }
+{
+    let n = sheet::agents(sheet);
+    let seen = look(sheet, owners, prices, groups, entitled, likes, sums, ups);
+    let giver = seen.giver;
+    let reached = seen.reached;
+    if giver < n {
+        hand_over(
+            n,
+            owners,
+            entitled,
+            likes,
+            giver,
+            seen.before,
+            seen.free,
+            seen.grouped,
+        );
+        return Turn::Moved;
+    }
+    if seen.any {
+        let a = sheet::easy_weight(sheet);
+        let b = sheet::difficult_weight(sheet);
+        cut_prices(owners, prices, entitled, reached, a, b);
+        cut_groups(groups, reached, cuts + 1);
+        return Turn::Cut;
+    }
+    Turn::Ended
+}
+
+// Step 2a at the group at work.
+fn step_2a(
+    sheet: &[u8],
+    owners: &mut [u8],
+    prices: &[u32],
+    groups: &[u8],
+    entitled: &[u8],
+    likes: &[u32],
+    sums: &mut [u32],
+    ups: &mut [u32],
+    cuts: u8,
+    stage: u8,
+) -> Turn
+    requires { ⌜ Turning (now sheet) (now owners) (now prices) (now groups) (now entitled) (now likes) (now sums) (now ups) cuts stage × (0 < stage) ⌝ }
+    ensures { λ r. ⌜ ((moves : ℕ) → step (asRead (now (sheet .entry))) (stateOf (now (owners .entry)) (now (prices .entry)) (now (groups .entry)) (now (entitled .entry)) moves cuts stage)
+        ≡ named r (now (owners .exit)) (now (prices .entry)) (now (groups .entry)) (now (entitled .entry)) moves cuts stage) ⌝ }
+{
+    let n = sheet::agents(sheet);
+    sum_up(n, owners, prices, sums, ups);
+    let i = greatest_in(groups, ups, stage);
+    let j = least_after(groups, sums, stage);
+    if i < n {
+        if j < n {
+            if ups[i] > sums[j] {
+                let c = first_free(owners, entitled, i);
+                owners[c] = j as u8 + 1;
+                return Turn::Moved;
+            }
+        }
+    }
+    Turn::Passed
 }

@@ -7,57 +7,42 @@ use Rattle.allocation.specs.Looks.{receiverFrom, choreFor}
 use Rattle.allocation.proofs.Looking.{receiver-of, chore-of}
 use Rattle.allocation.proofs.steps.hand_over.Statement.{statement}
 use Rattle.allocation.proofs.steps.hand_over.Tie as tie
-use Rattle.allocation.proofs.steps.hand_over.Reads as reads
-use Rattle.allocation.proofs.steps.hand_over.Lts as lts
-use Rattle.market.proofs.rings.first_wanted.Reads as first-wanted-reads
-use Rattle.market.proofs.rings.wanters.Reads as wanters-reads
-use Rattle.market.proofs.words.lowest.Reads as lowest-reads
-use Rattle.market.proofs.words.with.Reads as with-reads
 
--- src/steps.rt:96:20
 wanters-requires : tie.Need-wanters-requires
 wanters-requires c κs = search needs
 
--- src/steps.rt:96:9
 lowest-requires : tie.Need-lowest-requires
 lowest-requires c κs = search needs
 
--- src/steps.rt:97:9
 with-requires : tie.Need-with-requires
 with-requires c κs =
-    let r = receiver-of (c .before .before .before .before .before .before .args .n) (now (c .before .before .before .before .before .before .args .owners)) (now (c .before .before .before .before .before .before .args .entitled)) (now (c .before .before .before .before .before .before .args .likes)) (c .before .before .before .before .before .before .args .w) (c .before .before .before .before .before .before .args .free) (c .before .before .before .before .before .before .args .grouped) (c .before .wanters .result) (c .before .wanters .ensures) (c .lowest .ensures) in
+    let r = receiver-of (c .before .before .before .before .before .before .args .n) (now (c .before .before .before .before .before .before .args .owners)) (now (c .before .before .before .before .before .before .args .entitled)) (now (c .before .before .before .before .before .before .args .likes)) (c .before .before .before .before .before .before .args .w) (c .before .before .before .before .before .before .args .before) (c .before .before .before .before .before .before .args .free) (c .before .before .before .before .before .before .args .grouped) (c .before .wanters .result) (c .before .wanters .ensures) (c .lowest .ensures) in
     omega (arith, r, c .before .before .before .before .before .before .pre .receiver, c .before .before .before .before .before .before .pre .agents)
 
--- src/steps.rt:98:9
 first-wanted-requires : tie.Need-first-wanted-requires
 first-wanted-requires c κs = search needs
 
-receiver-is : (c : tie.After-first-wanted) → c .before .before .before .lowest .result ≡ receiverFrom (c .before .before .before .before .before .before .before .before .before .args .n) (now (c .before .before .before .before .before .before .before .before .before .args .owners)) (now (c .before .before .before .before .before .before .before .before .before .args .entitled)) (now (c .before .before .before .before .before .before .before .before .before .args .likes)) (c .before .before .before .before .before .before .before .before .before .args .w) (c .before .before .before .before .before .before .before .before .before .args .free) (c .before .before .before .before .before .before .before .before .before .args .grouped)
-receiver-is c = receiver-of (c .before .before .before .before .before .before .before .before .before .args .n) (now (c .before .before .before .before .before .before .before .before .before .args .owners)) (now (c .before .before .before .before .before .before .before .before .before .args .entitled)) (now (c .before .before .before .before .before .before .before .before .before .args .likes)) (c .before .before .before .before .before .before .before .before .before .args .w) (c .before .before .before .before .before .before .before .before .before .args .free) (c .before .before .before .before .before .before .before .before .before .args .grouped) (c .before .before .before .before .wanters .result) (c .before .before .before .before .wanters .ensures) (c .before .before .before .lowest .ensures)
+receiver-is : (c : tie.After-first-wanted) → c .before .before .before .lowest .result ≡ receiverFrom (c .before .before .before .before .before .before .before .before .before .args .n) (now (c .before .before .before .before .before .before .before .before .before .args .owners)) (now (c .before .before .before .before .before .before .before .before .before .args .entitled)) (now (c .before .before .before .before .before .before .before .before .before .args .likes)) (c .before .before .before .before .before .before .before .before .before .args .w) (c .before .before .before .before .before .before .before .before .before .args .before) (c .before .before .before .before .before .before .before .before .before .args .free) (c .before .before .before .before .before .before .before .before .before .args .grouped)
+receiver-is c = receiver-of (c .before .before .before .before .before .before .before .before .before .args .n) (now (c .before .before .before .before .before .before .before .before .before .args .owners)) (now (c .before .before .before .before .before .before .before .before .before .args .entitled)) (now (c .before .before .before .before .before .before .before .before .before .args .likes)) (c .before .before .before .before .before .before .before .before .before .args .w) (c .before .before .before .before .before .before .before .before .before .args .before) (c .before .before .before .before .before .before .before .before .before .args .free) (c .before .before .before .before .before .before .before .before .before .args .grouped) (c .before .before .before .before .wanters .result) (c .before .before .before .before .wanters .ensures) (c .before .before .before .lowest .ensures)
 
 below : (c : tie.After-first-wanted) → c .before .before .before .lowest .result < 32
 below c = omega (arith, receiver-is c, c .before .before .before .before .before .before .before .before .before .pre .receiver, c .before .before .before .before .before .before .before .before .before .pre .agents)
 
-chore-is : (c : tie.After-first-wanted) → c .first-wanted .result ≡ choreFor (now (c .before .before .before .before .before .before .before .before .before .args .owners)) (now (c .before .before .before .before .before .before .before .before .before .args .entitled)) (now (c .before .before .before .before .before .before .before .before .before .args .likes)) (c .before .before .before .before .before .before .before .before .before .args .w) (receiverFrom (c .before .before .before .before .before .before .before .before .before .args .n) (now (c .before .before .before .before .before .before .before .before .before .args .owners)) (now (c .before .before .before .before .before .before .before .before .before .args .entitled)) (now (c .before .before .before .before .before .before .before .before .before .args .likes)) (c .before .before .before .before .before .before .before .before .before .args .w) (c .before .before .before .before .before .before .before .before .before .args .free) (c .before .before .before .before .before .before .before .before .before .args .grouped)) (c .before .before .before .before .before .before .before .before .before .args .free) (c .before .before .before .before .before .before .before .before .before .args .grouped)
-chore-is c = chore-of (c .before .before .before .before .before .before .before .before .before .args .n) (now (c .before .before .before .before .before .before .before .before .before .args .owners)) (now (c .before .before .before .before .before .before .before .before .before .args .entitled)) (now (c .before .before .before .before .before .before .before .before .before .args .likes)) (c .before .before .before .before .before .before .before .before .before .args .w) (c .before .before .before .before .before .before .before .before .before .args .free) (c .before .before .before .before .before .before .before .before .before .args .grouped) (receiver-is c) (c .before .before .with .ensures) (c .first-wanted .ensures)
+chore-is : (c : tie.After-first-wanted) → c .first-wanted .result ≡ choreFor (now (c .before .before .before .before .before .before .before .before .before .args .owners)) (now (c .before .before .before .before .before .before .before .before .before .args .entitled)) (now (c .before .before .before .before .before .before .before .before .before .args .likes)) (c .before .before .before .before .before .before .before .before .before .args .w) (receiverFrom (c .before .before .before .before .before .before .before .before .before .args .n) (now (c .before .before .before .before .before .before .before .before .before .args .owners)) (now (c .before .before .before .before .before .before .before .before .before .args .entitled)) (now (c .before .before .before .before .before .before .before .before .before .args .likes)) (c .before .before .before .before .before .before .before .before .before .args .w) (c .before .before .before .before .before .before .before .before .before .args .before) (c .before .before .before .before .before .before .before .before .before .args .free) (c .before .before .before .before .before .before .before .before .before .args .grouped)) (c .before .before .before .before .before .before .before .before .before .args .free) (c .before .before .before .before .before .before .before .before .before .args .grouped)
+chore-is c = chore-of (c .before .before .before .before .before .before .before .before .before .args .n) (now (c .before .before .before .before .before .before .before .before .before .args .owners)) (now (c .before .before .before .before .before .before .before .before .before .args .entitled)) (now (c .before .before .before .before .before .before .before .before .before .args .likes)) (c .before .before .before .before .before .before .before .before .before .args .w) (c .before .before .before .before .before .before .before .before .before .args .before) (c .before .before .before .before .before .before .before .before .before .args .free) (c .before .before .before .before .before .before .before .before .before .args .grouped) (receiver-is c) (c .before .before .with .ensures) (c .first-wanted .ensures)
 
--- src/steps.rt:99:17
 cast-owners : tie.Need-cast-owners
 cast-owners c = record { fits = omega (arith, below c) }
 
--- src/steps.rt:99:17
 add-owners : tie.Need-add-owners
 add-owners c = record { fits = omega (arith, below c) }
 
--- src/steps.rt:99:5
 slice-write-owners : tie.Need-slice-write-owners
 slice-write-owners c = rw (chore-is c) (c .before .before .before .before .before .before .before .before .before .pre .chore)
 
--- src/steps.rt:82:1
 same-length : tie.Need-same-length
 same-length c = search needs
 
--- src/steps.rt:82:1
 returns : tie.Need-returns
 returns c = rw (chore-is c, receiver-is c)
 
