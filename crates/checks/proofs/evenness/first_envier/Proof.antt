@@ -23,6 +23,11 @@ loop-holds c = (omega arith, first-zero _)
 first-envied-requires : tie.Need-first-envied-requires Inv-loop μ-loop
 first-envied-requires c κs = (c .before .before .before .before .pre, c .loop-test .taken)
 
+loop-again : tie.Need-loop-again Inv-loop μ-loop
+loop-again c =
+    let none = any-first _ _ ∙ le-ltb _ _ (rw (c .before .first-envied .ensures) at (c .if1 .left)) in
+    (omega arith, first-miss _ _ (c .before .before .before .loop .inv .1) none)
+
 returns : tie.Need-returns Inv-loop μ-loop
 unfolding firstOfPair
 returns c =
@@ -34,11 +39,6 @@ add-i c = search needs
 
 loop-less : tie.Need-loop-less Inv-loop μ-loop
 loop-less c = search needs
-
-loop-again : tie.Need-loop-again Inv-loop μ-loop
-loop-again c =
-    let none = any-first _ _ ∙ le-ltb _ _ (rw (c .before .first-envied .ensures) at (c .if1 .left)) in
-    (omega arith, first-miss _ _ (c .before .before .before .loop .inv .1) none)
 
 returns-2 : tie.Need-returns-2 Inv-loop μ-loop
 unfolding firstOfPair

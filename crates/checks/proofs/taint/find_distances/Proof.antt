@@ -24,7 +24,7 @@ cast-loop : tie.Need-cast-loop Inv-loop μ-loop
 cast-loop c = search needs
 
 next-ring-requires : tie.Need-next-ring-requires Inv-loop μ-loop
-next-ring-requires c κs = (c .before .before .before .before .before .before .before .pre .0, (c .before .loop-test .taken, c .before .before .loop .inv .1))
+next-ring-requires c κs = (c .before .before .before .before .before .before .before .pre .0, (omega (arith, c .before .loop-test .taken), c .before .before .loop .inv .1))
 
 add-t : tie.Need-add-t Inv-loop μ-loop
 add-t c = omega (arith, c .before .before .loop-test .taken, c .before .before .before .before .before .before .before .before .pre .0 .agents, c .before .before .before .before .before .before .before .before .pre .0 .valid .agentsFit)
