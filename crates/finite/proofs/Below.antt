@@ -1,4 +1,5 @@
 -- Cases on a number below a bound, and on two numbers.
+-- Assumes nothing.
 use Prim.Native.Nat.{ℕ, suc, _≤_, _<_}
 use mathlib.Core.Path.{_≡_}
 use native.Mathlib.Nat.{not-suc-le-zero, le-step, lt-of-lt-of-le}

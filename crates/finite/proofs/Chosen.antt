@@ -1,4 +1,5 @@
 -- Laws of the first passing number that no other passing number is better than.
+-- Assumes nothing.
 use Prim.Native.Nat.{ℕ, _+_, _≤_, _<_}
 use mathlib.Core.Bool.{Bool, true, false, not, _&&_}
 use mathlib.Core.Path.{_≡_, sym, ap₂, _∙_}

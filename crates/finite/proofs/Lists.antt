@@ -1,15 +1,16 @@
--- Laws of lists made by index, of the search through all lists of a length, and of two-byte numbers.
-use Prim.Native.Nat.{ℕ, zero, suc, _+_, _≤_, _<_}
+-- Laws of lists made by index, of a list lent from its middle, of the search through all lists of a length, and of two-byte numbers.
+-- Assumes nothing.
+use Prim.Native.Nat.{ℕ, zero, suc, _+_, _-_, _≤_, _<_}
 use mathlib.Core.Bool.{Bool, true, false, cond}
-use mathlib.Core.List.{List, [], _∷_, _++_}
+use mathlib.Core.List.{List, [], _∷_, _++_, append-assoc, append-nil}
 use mathlib.Core.Path.{_≡_, refl, sym, ap, ap₂, _∙_}
 use native.Mathlib.Nat.{le-refl, le-of-eq}
 use native.Mathlib.Numerals.{add-one}
 use native.Mathlib.Omega.{arith}
 use lib.Dec.{eqb}
 use borrow.Author.Tests.{ne-eqb}
-use lib.ListN.{length, getD, take, set, replicate, length-append, length-set, length-replicate, getD-replicate, List·getD-append}
-use lib.Seq.{ext-getD, take-suc, take-suc-set, take-all, getD-take, getD-at, getD-set-same, getD-set-other, length-take-le}
+use lib.ListN.{length, getD, take, drop, set, replicate, length-append, length-drop, length-set, length-replicate, getD-replicate, take-append-drop, drop-of-length-le, List·getD-append}
+use lib.Seq.{ext-getD, sets, sets-eq, take-at, drop-drop, drop-append-add, take-suc, take-suc-set, take-all, getD-take, getD-at, getD-set-same, getD-set-other, length-take-le}
 use Rattle.finite.specs.Lists.{tabulate, someList, wordAt}
 use Rattle.finite.proofs.Tests.{clash, bool-eq, fails-of, not-yes, cond-false, eqb-same}
 use Rattle.finite.proofs.Below.{none-below, by-top, lower, by-same}
@@ -84,6 +85,29 @@ fill-done {n} f xs e h = sym (take-all n xs (le-of-eq e)) ∙ h
 
 pub fill-at : {k : ℕ} (f : ℕ → ℕ) (xs : List ℕ) (i d : ℕ) → i < k → take k xs ≡ tabulate k f → getD xs i d ≡ f i
 fill-at {k} f xs i d l h = sym (getD-take k xs i d l) ∙ ap (λ ys. getD ys i d) h ∙ tab-at f i d l
+
+-- a list lent from its middle
+
+-- the rest from a on is all that is left
+pub rest-whole : {a : ℕ} (xs : List ℕ) → a ≤ length xs → take (length xs - a) (drop a xs) ≡ drop a xs
+rest-whole {a} xs l = take-all (length xs - a) (drop a xs) (simp length-drop (omega arith))
+
+-- handed back with ws at its start and the rest kept, it makes the whole have ws from a on
+module _ (xs ys ws : List ℕ) (a m : ℕ) (size : length ws ≡ m) (room : a + m ≤ length xs) where
+  pub rest-back : take m ys ≡ ws → drop m ys ≡ drop m (drop a xs) → take a xs ++ (ys ++ drop (length xs - a) (drop a xs)) ≡ sets xs a ws
+  rest-back written kept =
+      let gone : drop (length xs - a) (drop a xs) ≡ [] = drop-of-length-le (drop a xs) {i = length xs - a} (simp length-drop (omega arith)) in
+      let made : ys ≡ ws ++ drop (a + m) xs = sym (take-append-drop m ys) ∙ rw (written, kept, drop-drop) in
+      let fits : a + length ws ≤ length xs = rw size room in
+      rw (gone, append-nil, made, sets-eq ws xs a fits, size) (sym (append-assoc (take a xs) ws (drop (a + m) xs)))
+
+-- ws written where a list goes on with the rest of another
+pub stretch-on : (done ws lent : List ℕ) (f e : ℕ) → length done ≡ f → length ws ≡ e → f + e ≤ length lent → sets (done ++ drop f lent) f ws ≡ (done ++ ws) ++ drop (f + e) lent
+stretch-on done ws lent f e long size room =
+    let whole : length (done ++ drop f lent) ≡ length lent = simp (length-append, length-drop) (omega arith) in
+    let fits : f + length ws ≤ length (done ++ drop f lent) = rw (whole, size) room in
+    let after : drop (f + e) (done ++ drop f lent) ≡ drop (f + e) lent = rw (← long) (drop-append-add done (drop (length done) lent) e ∙ drop-drop e (length done) lent) in
+    rw (sets-eq ws (done ++ drop f lent) f fits, size, take-at done (drop f lent) f long, after)
 
 -- someList
 

@@ -1,4 +1,5 @@
 -- Laws of sums over the numbers below a bound.
+-- Assumes nothing.
 use Prim.Native.Nat.{ℕ, zero, suc, _+_, _*_, _≤_, _<_}
 use mathlib.Core.Path.{_≡_, refl, sym, ap, ap₂, _∙_}
 use native.Mathlib.Nat.{le-refl, le-antisymm, add-zero, add-suc, mul-zero, zero-mul, suc-mul, mul-add}

@@ -1,4 +1,5 @@
 -- Laws of Boolean tests: cases with the equation kept, and, or, not, cond.
+-- Assumes nothing.
 use Prim.Native.Nat.{ℕ, _*_, _≤_, zero-le}
 use mathlib.Core.Bool.{Bool, true, false, cond, not, _&&_, _||_, true≢false, false≢true}
 use mathlib.Core.Path.{_≡_, refl, sym, _∙_}

@@ -13,7 +13,7 @@ use Rattle.finite.proofs.Tests.{or-none, or-none-intro, not-off}
 use Rattle.finite.proofs.Search.{any-none, any-none-intro}
 use Rattle.model.specs.Limits.{maxAgents, maxChores, maxWeight}
 use Rattle.model.specs.Sheet.{agentsOf, choresOf, easyWeight, difficultWeight, sheetLength, markAt}
-use Rattle.model.specs.Refusals.{_orElse_, isMark, sheetRefusal}
+use Rattle.model.specs.Refusals.{_orElse_, isMark, sheetRefusal, lentRefusal}
 use Rattle.sheet.specs.Valid.{Valid}
 use Rattle.sheet.specs.Parts.{agentsFault, weightsFault, marksFault, headerRefusal}
 use Rattle.sheet.proofs.OrElse.{or-else-next, or-else-stop}
@@ -176,3 +176,8 @@ accepted s v =
     let w = weights-no-fault _ _ (v .easyPositive) (v .easier) (v .weightFits) in
     let h : Header s _ _ _ _ = record { long = v .header; agents = refl; chores = refl; easy = refl; difficult = refl } in
     not-refused h refl (header-fine _ _ _ _ n (v .choresFit) w) (v .long) (marks-no-fault s (v .marks))
+
+-- and refusal 8 of 0 that a lent list is long enough
+pub lent-room : {needed lent : ℕ} → lentRefusal needed lent ≡ 0 → needed ≤ lent
+unfolding lentRefusal
+lent-room {needed} {lent} e = ltb-false lent needed (peel (ltb lent needed) 7 0 e .0)

@@ -5,7 +5,7 @@ ghost use Prim.Native.Nat.{_+_, _≤_, _<_};
 ghost use lib.ListN.{length, getD};
 ghost use Rattle.finite.specs.Lists.{wordAt};
 ghost use Rattle.model.specs.Sheet.{agentsOf, choresOf, easyWeight, difficultWeight, marksEasy, allDifficult};
-ghost use Rattle.model.specs.Refusals.{isMark, sheetRefusal};
+ghost use Rattle.model.specs.Refusals.{isMark, sheetRefusal, lentRefusal};
 ghost use Rattle.sheet.specs.Parts.{agentsFault, weightsFault, marksFault, headerRefusal};
 ghost use Rattle.sheet.specs.Readers.{Read, InSheet, RowInSheet};
 
@@ -153,6 +153,16 @@ pub fn sheet_refusal(sheet: &[u8]) -> u8
     }
     if marks_fault(sheet, marks) {
         return 4;
+    }
+    0
+}
+
+// 8: a lent list is too short. Every call that is lent a list turns it down so.
+pub fn lent_refusal(needed: usize, lent: usize) -> u8
+    ensures { λ r. ⌜ r ≡ lentRefusal needed lent ⌝ }
+{
+    if lent < needed {
+        return 8;
     }
     0
 }

@@ -1,4 +1,5 @@
 -- An accepted list holds, whoever proposed the prices: the first welfare theorem, and evenness by prices.
+-- Assumes nothing.
 use Prim.Native.Nat.{ℕ, _*_, _≤_, _<_}
 use mathlib.Core.Bool.{Bool, true, false, not, _&&_}
 use mathlib.Core.Path.{_≡_}

@@ -1,4 +1,5 @@
 -- Lists of owners' numbers, and the functions from chores to agents that they stand for.
+-- Assumes nothing.
 use Prim.Native.Nat.{ℕ, _+_, _≤_, _<_}
 use mathlib.Core.Bool.{true, false, _&&_}
 use mathlib.Core.List.{List}

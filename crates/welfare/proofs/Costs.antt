@@ -1,10 +1,11 @@
 -- What a chore costs: one of two weights.
+-- Assumes nothing.
 use Prim.Native.Nat.{ℕ, _≤_, _<_}
 use mathlib.Core.Bool.{true, false, not, _&&_}
 use mathlib.Core.Path.{_≡_}
 use native.Mathlib.Nat.{le-refl}
 use native.Mathlib.Omega.{arith}
-use borrow.Author.Tests.{not-true, not-false, eqb-true, eq-eqb}
+use borrow.Author.Tests.{not-true, not-false, eqb-true, eq-eqb, ne-eqb}
 use Rattle.finite.proofs.Tests.{cond-le, le-cond, and-elim, and-intro, and-rest, not-on}
 use Rattle.finite.proofs.Search.{any-elim, any-intro, any-none}
 use Rattle.model.specs.Instance.{Instance, cost}
@@ -23,6 +24,10 @@ owned x i c e = eqb-true (x c) i e
 pub owned-by : (x : ℕ → ℕ) (i c : ℕ) → x c ≡ i → owns x i c ≡ true
 unfolding owns
 owned-by x i c e = eq-eqb (x c) i e
+
+pub owned-not : (x : ℕ → ℕ) (i c : ℕ) → (x c ≡ i → ⊥) → owns x i c ≡ false
+unfolding owns
+owned-not x i c h = ne-eqb (x c) i h
 
 module _ (I : Instance) (i c : ℕ) where
   pub cost-easy : I .easy i c ≡ true → cost I i c ≡ I .a

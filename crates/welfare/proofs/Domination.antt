@@ -1,4 +1,5 @@
 -- What it is for one list to dominate another, as facts; and costs that two lists share.
+-- Assumes nothing.
 use Prim.Native.Nat.{ℕ, _≤_, _<_}
 use mathlib.Core.Bool.{Bool, true, false, _&&_}
 use mathlib.Core.Path.{_≡_, ap, ap₂}

@@ -1,4 +1,5 @@
 -- Evenness is decided by the costliest chore: if any chore taken off makes the rest cost no more, one of the costliest does.
+-- Assumes nothing.
 use Prim.Native.Nat.{ℕ, _+_, _≤_, _<_}
 use mathlib.Core.Bool.{Bool, true, false, cond, not, _&&_}
 use mathlib.Core.Logic.{_↔_}

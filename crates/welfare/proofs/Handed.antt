@@ -1,4 +1,5 @@
 -- One chore handed over: the list before, the list after, and what it changes for each agent.
+-- Assumes nothing.
 use Prim.Native.Nat.{ℕ, _+_, _-_, _≤_, _<_}
 use mathlib.Core.Bool.{cond}
 use mathlib.Core.List.{List}

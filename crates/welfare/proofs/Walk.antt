@@ -1,5 +1,6 @@
 -- Where the test for waste passes, a dominating list: the difficult chore goes to the tainted agent, and along a shortest walk each hands
 -- an easy chore on, until a burdened agent is relieved.
+-- Assumes nothing.
 use Prim.Native.Nat.{ℕ, zero, suc, _+_, _≤_, _<_}
 use mathlib.Core.Bool.{Bool, true, false, cond}
 use mathlib.Core.Path.{_≡_, refl, sym, ap, _∙_}

@@ -1,4 +1,5 @@
 -- Where the test for waste fails, no list dominates: each agent gets a weight, under which no chore has a cheaper owner than its own.
+-- Assumes nothing.
 use Prim.Native.Nat.{ℕ, _*_, _≤_, _<_}
 use mathlib.Core.Bool.{true, false}
 use mathlib.Core.Path.{_≡_, refl}

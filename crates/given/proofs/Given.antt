@@ -1,0 +1,135 @@
+-- Laws of what both checks are given.
+-- Assumes nothing.
+use Prim.Native.Nat.{ℕ, suc, _+_, _≤_, _<_}
+use mathlib.Core.Bool.{Bool, true, false, cond, not, _&&_}
+use mathlib.Core.List.{List}
+use mathlib.Core.Path.{_≡_, refl, sym, _∙_}
+use native.Mathlib.Omega.{arith}
+use lib.Dec.{eqb, leb, ltb}
+use lib.ListN.{length, getD}
+use borrow.Author.Tests.{eqb-true, eq-eqb, ne-eqb, lt-ltb, le-ltb, le-leb, lt-leb, not-false}
+use Rattle.finite.proofs.Tests.{and-intro, and-no-left, and-no-right}
+use Rattle.finite.proofs.Search.{all-zero, all-next, all-fails-intro}
+use Rattle.finite.proofs.Lists.{Picks}
+use Rattle.model.specs.Instance.{cost, ownerOf}
+use Rattle.model.specs.Sheet.{agentsOf, choresOf, easyWeight, difficultWeight, marksEasy, asMarked}
+use Rattle.model.specs.Fairness.{ownersInRange}
+use Rattle.model.specs.Refusals.{sheetRefusal, ownersRefusal}
+use Rattle.sheet.specs.Readers.{InSheet}
+use Rattle.sheet.proofs.Refusal.{valid}
+use Rattle.welfare.proofs.Allocations.{entry-range}
+use Rattle.welfare.proofs.Costs.{cost-easy, cost-difficult}
+use Rattle.given.specs.Given.{Given, Weighed, Owned, Costed, Cost}
+
+-- a refusal in front that did not turn down
+peel : (t : Bool) (k x : ℕ) → cond t (suc k) x ≡ 0 → (t ≡ false) × (x ≡ 0)
+peel true k x e = absurd (omega arith)
+peel false k x e = (refl, e)
+
+-- entries from 1 to a limit: what one more entry adds, and what one entry out of range spoils
+
+pub range-zero : (n : ℕ) (owners : List ℕ) → ownersInRange n 0 owners ≡ true
+unfolding ownersInRange
+range-zero n owners = all-zero _
+
+module _ (n : ℕ) (owners : List ℕ) (c : ℕ) where
+  in-range : ℕ → Bool
+  in-range k = ltb 0 (getD owners k 0) && leb (getD owners k 0) n
+
+  pub range-next : ownersInRange n c owners ≡ true → (getD owners c 0 ≡ 0 → ⊥) → getD owners c 0 ≤ n → ownersInRange n (c + 1) owners ≡ true
+  unfolding ownersInRange in-range
+  range-next e some fits =
+      all-next c in-range ∙ and-intro e (and-intro (lt-ltb 0 (getD owners c 0) (omega arith)) (le-leb (getD owners c 0) n fits))
+
+  pub range-none : {m : ℕ} → c < m → getD owners c 0 ≡ 0 → ownersInRange n m owners ≡ false
+  unfolding ownersInRange in-range
+  range-none l e =
+      all-fails-intro in-range c l (and-no-left (leb (getD owners c 0) n) (le-ltb 0 (getD owners c 0) (omega arith)))
+
+  pub range-above : {m : ℕ} → c < m → n < getD owners c 0 → ownersInRange n m owners ≡ false
+  unfolding ownersInRange in-range
+  range-above l h =
+      all-fails-intro in-range c l (and-no-right (ltb 0 (getD owners c 0)) (lt-leb (getD owners c 0) n h))
+
+-- the refusals of a list of owners, and what 0 means
+module _ (n m : ℕ) (owners : List ℕ) where
+  pub refused-size : (length owners ≡ m → ⊥) → ownersRefusal n m owners ≡ 6
+  unfolding ownersRefusal
+  refused-size h = rw (ne-eqb (length owners) m h)
+
+  module _ (size : length owners ≡ m) where
+    pub refused-range : ownersInRange n m owners ≡ false → ownersRefusal n m owners ≡ 7
+    unfolding ownersRefusal
+    refused-range e = rw (eq-eqb (length owners) m size, e)
+
+    pub owners-fine : ownersInRange n m owners ≡ true → ownersRefusal n m owners ≡ 0
+    unfolding ownersRefusal
+    owners-fine e = rw (eq-eqb (length owners) m size, e)
+
+  pub owners-judged : ownersRefusal n m owners ≡ 0 → (length owners ≡ m) × (ownersInRange n m owners ≡ true)
+  unfolding ownersRefusal
+  owners-judged e =
+      let size = peel (not (eqb (length owners) m)) 5 _ e in
+      (eqb-true (length owners) m (not-false _ (size .0)), not-false _ (peel (not (ownersInRange n m owners)) 6 0 (size .1) .0))
+
+-- what both refusals being 0 gives
+pub given : (s owners : List ℕ) (n m : ℕ) → sheetRefusal s ≡ 0 → n ≡ agentsOf s → m ≡ choresOf s → ownersRefusal n m owners ≡ 0 → Given s owners n m
+given s owners n m fine agents chores judged =
+    let both = owners-judged n m owners judged in
+    record {
+      valid = valid s fine;
+      agents = agents;
+      chores = chores;
+      size = both .0;
+      positive = λ c l. entry-range n m owners (both .1) c l .0;
+      bounded = λ c l. entry-range n m owners (both .1) c l .1;
+    }
+
+module _ {s owners : List ℕ} {n m : ℕ} (g : Given s owners n m) where
+  -- n is the sheet's number of agents
+  pub given-agents : Given s owners (agentsOf s) m
+  given-agents = rw (g .agents) at g
+
+  pub owner-below : (c : ℕ) → c < m → ownerOf owners c < n
+  unfolding ownerOf
+  owner-below c l = omega (arith, g .positive c l, g .bounded c l)
+
+  -- and as the definitions have it
+  pub owner-agent : (c : ℕ) → c < asMarked s .m → ownerOf owners c < asMarked s .n
+  unfolding asMarked
+  owner-agent c l = rw (← g .agents) (owner-below c (rw (g .chores) l))
+
+  pub given-owned : (c : ℕ) → c < m → Owned owners c
+  given-owned c l = record { entry = omega (arith, g .size); positive = g .positive c l }
+
+  pub given-picks : Picks n m owners
+  given-picks = record { size = g .size; positive = g .positive; bounded = g .bounded }
+
+  pub given-weighed : {a b : ℕ} → a ≡ easyWeight s → b ≡ difficultWeight s → Weighed s m a b
+  given-weighed e d = record { valid = g .valid; chores = g .chores; easy = e; difficult = d }
+
+-- a cost that was read
+module _ {s : List ℕ} {m a b i c : ℕ} (k : Costed s m a b i c) where
+  pub costed-in-sheet : InSheet s m i c
+  costed-in-sheet =
+      record { long = k .weighed .valid .long; chores = k .weighed .chores; agent = k .agent; chore = rw (← k .weighed .chores) (k .chore) }
+
+  pub cost-of-easy : marksEasy s i c ≡ true → Cost (cost (asMarked s) i c) a
+  unfolding asMarked
+  cost-of-easy e =
+      let v = k .weighed .valid in
+      record {
+        is = k .weighed .easy ∙ sym (cost-easy (asMarked s) i c e);
+        positive = omega (arith, k .weighed .easy, v .easyPositive);
+        fits = omega (arith, k .weighed .easy, v .easier, v .weightFits);
+      }
+
+  pub cost-of-difficult : marksEasy s i c ≡ false → Cost (cost (asMarked s) i c) b
+  unfolding asMarked
+  cost-of-difficult e =
+      let v = k .weighed .valid in
+      record {
+        is = k .weighed .difficult ∙ sym (cost-difficult (asMarked s) i c e);
+        positive = omega (arith, k .weighed .difficult, v .easier);
+        fits = omega (arith, k .weighed .difficult, v .weightFits);
+      }

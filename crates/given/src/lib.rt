@@ -1,0 +1,68 @@
+// What the two checks are given: a list of owners, judged against its sheet; whose a chore is, what it costs, as the sheet's marks say, and
+// which chore of an agent is the first difficult one.
+
+ghost use mathlib.Core.Path.{_≡_};
+ghost use Prim.Native.Nat.{_<_};
+ghost use Rattle.finite.specs.Search.{firstBelow};
+ghost use Rattle.model.specs.Instance.{cost, ownerOf};
+ghost use Rattle.model.specs.Sheet.{agentsOf, asMarked};
+ghost use Rattle.model.specs.Refusals.{ownersRefusal};
+ghost use Rattle.sheet.specs.Readers.{Read};
+ghost use Rattle.given.specs.Given.{Given, Owned, Costed, Cost};
+ghost use Rattle.given.specs.Burdens.{burdens};
+
+// The number that a list of owners is turned down with, 0 where it is not.
+pub fn owners_refusal(owners: &[u8], n: usize, m: usize) -> u8
+    ensures { λ r. ⌜ r ≡ ownersRefusal n m (now (owners .entry)) ⌝ }
+{
+    if owners.len() != m {
+        return 6;
+    }
+    let mut c = 0;
+    while c < m {
+        let number = owners[c] as usize;
+        if number == 0 || number > n {
+            return 7;
+        }
+        c += 1;
+    }
+    0
+}
+
+// The agent that owns a chore. Agents are counted from 0 here, and from 1 in a list of owners.
+pub fn owner(owners: &[u8], c: usize) -> usize
+    requires { ⌜ Owned (now owners) c ⌝ }
+    ensures { λ r. ⌜ Read (ownerOf (now (owners .entry)) c) 256 r ⌝ }
+{
+    owners[c] as usize - 1
+}
+
+// What a chore costs an agent, as marked: one of the sheet's weights `a` and `b`.
+pub fn cost(sheet: &[u8], m: usize, a: u32, b: u32, i: usize, c: usize) -> u32
+    requires { ⌜ Costed (now sheet) m a b i c ⌝ }
+    ensures { λ r. ⌜ Cost (cost (asMarked (now (sheet .entry))) i c) r ⌝ }
+{
+    if sheet::marks_easy(sheet, m, i, c) {
+        a
+    } else {
+        b
+    }
+}
+
+// The first chore of agent i that is difficult for it, m where there is none.
+pub fn first_burden(sheet: &[u8], owners: &[u8], m: usize, i: usize) -> usize
+    requires { ⌜ Given (now sheet) (now owners) (agentsOf (now sheet)) m ⌝ }
+    requires { ⌜ i < agentsOf (now sheet) ⌝ }
+    ensures { λ r. ⌜ r ≡ firstBelow m (burdens (now (sheet .entry)) (now (owners .entry)) i) ⌝ }
+{
+    let mut c = 0;
+    while c < m {
+        if owner(owners, c) == i {
+            if !sheet::marks_easy(sheet, m, i, c) {
+                return c;
+            }
+        }
+        c += 1;
+    }
+    m
+}

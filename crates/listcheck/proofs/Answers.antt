@@ -1,0 +1,92 @@
+-- Laws of the list check: its refusals, its answers, and what it leaves in the lent list.
+-- Assumes nothing.
+use Prim.Native.Nat.{ℕ, _+_, _≤_, _<_}
+use mathlib.Core.Bool.{true}
+use mathlib.Core.List.{List}
+use mathlib.Core.Path.{_≡_, refl, sym, _∙_}
+use native.Mathlib.Omega.{arith}
+use lib.ListN.{length}
+use borrow.Author.Tests.{ne-eqb, not-false}
+use Rattle.finite.specs.Search.{firstBelow}
+use Rattle.model.specs.Instance.{ownerOf}
+use Rattle.model.specs.Sheet.{agentsOf, choresOf, asMarked}
+use Rattle.model.specs.Fairness.{ef1}
+use Rattle.model.specs.Refusals.{_orElse_, sheetRefusal, ownersRefusal, lentRefusal, listRefusal}
+use Rattle.model.specs.Replies.{refused, holds, unfair, wasteful, listReply}
+use Rattle.model.specs.Verdicts.{envies, firstOfPair, secondOfPair, unlessRefused, listVerdict, listCheck}
+use Rattle.model.specs.Promises.{Dominating, ListChecked}
+use Rattle.model.specs.declared.ListVerdict.{ListVerdict}
+use Rattle.model.proofs.Pairs.{FirstPair, pair-found, pair-none-elim}
+use Rattle.sheet.proofs.OrElse.{or-else-zero}
+use Rattle.sheet.proofs.Refusal.{lent-room}
+use Rattle.welfare.proofs.Evenness.{ef1-intro}
+use Rattle.welfare.proofs.ListVerdict.{verdict-unfair}
+use Rattle.given.specs.Given.{Given}
+use Rattle.given.proofs.Given.{given}
+
+-- a list check that is not turned down
+
+module _ (s owners : List ℕ) (lent : ℕ) (fine : listRefusal s owners lent ≡ 0) where
+  parts : (sheetRefusal s ≡ 0) × (ownersRefusal (agentsOf s) (choresOf s) owners ≡ 0) × (lentRefusal (choresOf s) lent ≡ 0)
+  unfolding listRefusal
+  parts =
+      let one = or-else-zero (sheetRefusal s) (ownersRefusal (agentsOf s) (choresOf s) owners orElse lentRefusal (choresOf s) lent) fine in
+      let two = or-else-zero (ownersRefusal (agentsOf s) (choresOf s) owners) (lentRefusal (choresOf s) lent) (one .1) in
+      (one .0, two .0, two .1)
+
+  pub fine-sheet : sheetRefusal s ≡ 0
+  fine-sheet = parts .0
+
+  pub fine-given : (n m : ℕ) → n ≡ agentsOf s → m ≡ choresOf s → Given s owners n m
+  fine-given n m agents chores = given s owners n m (parts .0) agents chores (rw (agents, chores) (parts .1))
+
+  pub fine-room : {m : ℕ} → m ≡ choresOf s → m ≤ lent
+  fine-room chores = rw chores (lent-room (parts .2))
+
+-- the answer in each case
+
+module _ (s owners : List ℕ) (lent : ℕ) where
+  pub check-refused : {k : ℕ} → k ≡ listRefusal s owners lent → (k ≡ 0 → ⊥) → refused k ≡ listCheck s owners lent
+  unfolding listCheck unlessRefused
+  check-refused {k} e h = rw (← e, ne-eqb k 0 h)
+
+  pub check-judged : listRefusal s owners lent ≡ 0 → listCheck s owners lent ≡ listVerdict (asMarked s) (ownerOf owners)
+  unfolding listCheck unlessRefused
+  check-judged e = rw e
+
+pub refused-other : (k : ℕ) → refused k ≡ wasteful → ⊥
+refused-other k e = let z : _≡_ {A = ℕ} 0 1 = cc in omega arith
+
+pub unfair-other : (i j : ℕ) → unfair i j ≡ wasteful → ⊥
+unfair-other i j e = let z : _≡_ {A = ℕ} 0 1 = cc in omega arith
+
+pub holds-other : holds ≡ wasteful → ⊥
+holds-other e = let z : _≡_ {A = ℕ} 0 1 = cc in omega arith
+
+module _ {s owners lent : List ℕ} {r : ListVerdict} where
+  -- every answer but one leaves the lent list as it is
+  pub checked : listReply r ≡ listCheck s owners (length lent) → (listReply r ≡ wasteful → ⊥) → ListChecked s owners lent lent r
+  checked e other = record { answer = e; shown = λ q. absurd (other (e ∙ q)); kept = λ _. refl }
+
+pub checked-wasteful : {s owners lent lent′ : List ℕ} → wasteful ≡ listCheck s owners (length lent) → Dominating s owners lent lent′ → ListChecked s owners lent lent′ ListVerdict.Wasteful
+checked-wasteful e d = record { answer = e; shown = λ _. d; kept = λ h. absurd (h (sym e)) }
+
+module _ {s owners : List ℕ} {n m : ℕ} (g : Given s owners n m) where
+  -- the first pair that envies
+  module _ {i : ℕ} (envier : i ≡ firstOfPair n (envies (asMarked s) (ownerOf owners))) where
+    pub envious-pair : {j : ℕ} → i < n → j ≡ firstBelow n (envies (asMarked s) (ownerOf owners) i) → FirstPair n (envies (asMarked s) (ownerOf owners)) i j
+    unfolding secondOfPair
+    envious-pair l e =
+        let t = envies (asMarked s) (ownerOf owners) in
+        let p = pair-found n t (rw envier at l) in
+        rw (e, envier) p
+
+    pub even : n ≤ i → ef1 (asMarked s) (ownerOf owners) ≡ true
+    unfolding asMarked envies
+    even l =
+        ef1-intro (asMarked s) (ownerOf owners)
+        (λ i j a b. not-false _ (pair-none-elim n (envies (asMarked s) (ownerOf owners)) (rw envier at l) i j (rw (g .agents) a) (rw (g .agents) b)))
+
+  pub unfair-verdict : {i j : ℕ} → FirstPair n (envies (asMarked s) (ownerOf owners)) i j → listVerdict (asMarked s) (ownerOf owners) ≡ unfair (i + 1) (j + 1)
+  unfolding asMarked
+  unfair-verdict f = verdict-unfair (asMarked s) (ownerOf owners) (rw (g .agents) at f)

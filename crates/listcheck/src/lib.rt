@@ -1,0 +1,44 @@
+// The list check: whether a list is even, and whether another list dominates it. The tests are in `evenness` and `waste`.
+
+ghost use mathlib.Core.Path.{_≡_};
+ghost use Rattle.model.specs.Refusals.{listRefusal};
+ghost use Rattle.model.specs.Promises.{ListChecked};
+
+// The number that the list check is turned down with, 0 where it is not.
+fn list_refusal(sheet: &[u8], owners: &[u8], lent: usize) -> u8
+    ensures { λ r. ⌜ r ≡ listRefusal (now (sheet .entry)) (now (owners .entry)) lent ⌝ }
+{
+    let of_sheet = sheet::sheet_refusal(sheet);
+    if of_sheet != 0 {
+        return of_sheet;
+    }
+    let n = sheet::agents(sheet);
+    let m = sheet::chores(sheet);
+    let of_owners = given::owners_refusal(owners, n, m);
+    let of_lent = sheet::lent_refusal(m, lent);
+    if of_owners != 0 {
+        return of_owners;
+    }
+    of_lent
+}
+
+// Unfair agents come first: waste is looked for in an even list only. The lent list is written with `Wasteful` alone.
+pub fn check_list(sheet: &[u8], owners: &[u8], dominating: &mut [u8]) -> model::ListVerdict
+    ensures { λ r. ⌜ ListChecked (now (sheet .entry)) (now (owners .entry)) (now (dominating .entry)) (now (dominating .exit)) r ⌝ }
+{
+    let refusal = list_refusal(sheet, owners, dominating.len());
+    if refusal != 0 {
+        return model::ListVerdict::Refused(refusal);
+    }
+    let n = sheet::agents(sheet);
+    let m = sheet::chores(sheet);
+    let i = evenness::first_envier(sheet, owners, n, m);
+    if i < n {
+        let j = evenness::first_envied(sheet, owners, n, m, i);
+        return model::ListVerdict::Unfair((i + 1) as u8, (j + 1) as u8);
+    }
+    if waste::show_waste(sheet, owners, n, m, dominating) {
+        return model::ListVerdict::Wasteful;
+    }
+    model::ListVerdict::Holds
+}

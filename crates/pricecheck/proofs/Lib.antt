@@ -1,0 +1,5 @@
+pub mod Refusals
+pub mod Ratio
+pub mod Sums
+pub mod Envy
+pub mod Off

@@ -1,0 +1,272 @@
+// The price check: each chore is to be best for its owner, and nobody's price up to one above anybody's price sum.
+
+use model::PriceVerdict;
+ghost use mathlib.Core.Path.{_≡_};
+ghost use Prim.Native.Nat.{ℕ, _*_, _≤_, _<_, max};
+ghost use lib.Dec.{ltb};
+ghost use lib.ListN.{length, getD};
+ghost use Rattle.finite.specs.Search.{firstBelow};
+ghost use Rattle.model.specs.Limits.{maxAgents};
+ghost use Rattle.model.specs.Instance.{ownerOf, priceOf};
+ghost use Rattle.model.specs.Sheet.{agentsOf, asMarked};
+ghost use Rattle.model.specs.Prices.{ratioAtMost};
+ghost use Rattle.model.specs.Refusals.{pricesRefusal, priceRefusal};
+ghost use Rattle.model.specs.Verdicts.{firstOfPair, firstOffPrice};
+ghost use Rattle.model.specs.Replies.{priceReply};
+ghost use Rattle.model.specs.Promises.{PricesChecked};
+ghost use Rattle.pricecheck.specs.Parts.{Rated, Compared, Paid, PricesGiven, LeastRatio, LeastRatios, NoPrices, AddedUp, TakenOff, above, envyVerdict};
+
+// The number that a list of prices is turned down with, 0 where it is not.
+fn prices_refusal(prices: &[u32], m: usize) -> u8
+    ensures { λ r. ⌜ r ≡ pricesRefusal m (now (prices .entry)) ⌝ }
+{
+    if prices.len() != m {
+        return 10;
+    }
+    let mut c = 0;
+    while c < m {
+        let price = prices[c];
+        if price == 0 || price > model::MAX_PRICE {
+            return 10;
+        }
+        c += 1;
+    }
+    0
+}
+
+// The sheet is judged first, then the owners, then the prices: the first that is turned down decides.
+fn refusal(sheet: &[u8], owners: &[u8], prices: &[u32]) -> u8
+    ensures { λ r. ⌜ r ≡ priceRefusal (now (sheet .entry)) (now (owners .entry)) (now (prices .entry)) ⌝ }
+{
+    let of_sheet = sheet::sheet_refusal(sheet);
+    if of_sheet != 0 {
+        return of_sheet;
+    }
+    let n = sheet::agents(sheet);
+    let m = sheet::chores(sheet);
+    let of_owners = given::owners_refusal(owners, n, m);
+    let of_prices = prices_refusal(prices, m);
+    if of_owners != 0 {
+        return of_owners;
+    }
+    of_prices
+}
+
+// Two numbers of 32 bits never have a product that 64 bits do not hold.
+fn product(cost: u32, price: u32) -> u64
+    ensures { λ r. ⌜ r ≡ cost * price ⌝ }
+{
+    (cost as u64) * (price as u64)
+}
+
+// Whether agent i's ratio of cost to price for chore c is at most that for chore d, by cross products.
+fn ratio_at_most(
+    sheet: &[u8],
+    prices: &[u32],
+    m: usize,
+    a: u32,
+    b: u32,
+    i: usize,
+    c: usize,
+    d: usize,
+) -> bool
+    requires { ⌜ Compared (now sheet) (now prices) m a b i c d ⌝ }
+    ensures { λ r. ⌜ r ≡ ratioAtMost (asMarked (now (sheet .entry))) (priceOf (now (prices .entry))) i c d ⌝ }
+{
+    let left = product(given::cost(sheet, m, a, b, i, c), prices[d]);
+    let right = product(given::cost(sheet, m, a, b, i, d), prices[c]);
+    left <= right
+}
+
+// A chore of agent i's least ratio over all chores; 0 where there is no chore.
+fn least_ratio(sheet: &[u8], prices: &[u32], m: usize, a: u32, b: u32, i: usize) -> usize
+    requires { ⌜ Rated (now sheet) (now prices) m a b ⌝ }
+    requires { ⌜ i < agentsOf (now sheet) ⌝ }
+    ensures { λ r. ⌜ LeastRatio (now (sheet .entry)) (now (prices .entry)) m i r ⌝ }
+{
+    let mut least = 0;
+    let mut c = 0;
+    while c < m {
+        if !ratio_at_most(sheet, prices, m, a, b, i, least, c) {
+            least = c;
+        }
+        c += 1;
+    }
+    least
+}
+
+// A chore for each agent, none found yet.
+fn no_chores() -> [usize; model::MAX_AGENTS]
+    ensures { λ r. ⌜ length r ≡ maxAgents ⌝ }
+{
+    [0; model::MAX_AGENTS]
+}
+
+// For each agent a chore of its least ratio.
+fn least_ratios(
+    sheet: &[u8],
+    prices: &[u32],
+    n: usize,
+    m: usize,
+    a: u32,
+    b: u32,
+) -> [usize; model::MAX_AGENTS]
+    requires { ⌜ Rated (now sheet) (now prices) m a b ⌝ }
+    requires { ⌜ n ≡ agentsOf (now sheet) ⌝ }
+    ensures { λ r. ⌜ LeastRatios (now (sheet .entry)) (now (prices .entry)) n m r ⌝ }
+{
+    let mut least = no_chores();
+    let mut i = 0;
+    while i < n {
+        least[i] = least_ratio(sheet, prices, m, a, b, i);
+        i += 1;
+    }
+    least
+}
+
+// The first chore that is not best for its owner, m where each is. A chore is best if its ratio is at most that of any best chore.
+fn first_off_price(sheet: &[u8], owners: &[u8], prices: &[u32], n: usize, m: usize) -> usize
+    requires { ⌜ PricesGiven (now sheet) (now owners) (now prices) n m ⌝ }
+    ensures { λ r. ⌜ r ≡ firstOffPrice (asMarked (now (sheet .entry))) (ownerOf (now (owners .entry))) (priceOf (now (prices .entry))) ⌝ }
+{
+    let a = sheet::easy_weight(sheet);
+    let b = sheet::difficult_weight(sheet);
+    let least = least_ratios(sheet, prices, n, m, a, b);
+    let mut c = 0;
+    while c < m {
+        let i = given::owner(owners, c);
+        if !ratio_at_most(sheet, prices, m, a, b, i, c, least[i]) {
+            return c;
+        }
+        c += 1;
+    }
+    m
+}
+
+// A price for each agent, none added yet.
+fn no_prices() -> [u64; model::MAX_AGENTS]
+    ensures { λ r. ⌜ NoPrices r ⌝ }
+{
+    [0; model::MAX_AGENTS]
+}
+
+fn larger(x: u64, y: u64) -> u64
+    ensures { λ r. ⌜ r ≡ max x y ⌝ }
+{
+    if x < y { y } else { x }
+}
+
+// Each chore's price goes to its owner: to the sum of the prices held, and to the dearest of them.
+fn add_up(
+    owners: &[u8],
+    prices: &[u32],
+    m: usize,
+    sums: &mut [u64; model::MAX_AGENTS],
+    dearest: &mut [u64; model::MAX_AGENTS],
+)
+    requires { ⌜ Paid (now owners) (now prices) m ⌝ }
+    requires { ⌜ NoPrices (now sums) ⌝ }
+    requires { ⌜ NoPrices (now dearest) ⌝ }
+    ensures { λ _. ⌜ AddedUp m (now (owners .entry)) (now (prices .entry)) (now (sums .exit)) (now (dearest .exit)) ⌝ }
+{
+    let mut c = 0;
+    while c < m {
+        let i = given::owner(owners, c);
+        let price = prices[c] as u64;
+        sums[i] = sums[i] + price;
+        let top = larger(dearest[i], price);
+        dearest[i] = top;
+        c += 1;
+    }
+}
+
+// What is left of each agent's sum without its dearest chore. An agent with no chore has 0 left, which is above no sum: it envies nobody.
+fn take_off_dearest(
+    sums: &[u64; model::MAX_AGENTS],
+    dearest: &[u64; model::MAX_AGENTS],
+) -> [u64; model::MAX_AGENTS]
+    requires { ⌜ ((i : ℕ) → i < maxAgents → getD (now dearest) i 0 ≤ getD (now sums) i 0) ⌝ }
+    ensures { λ r. ⌜ TakenOff maxAgents (now (sums .entry)) (now (dearest .entry)) r ⌝ }
+{
+    let mut price_up_to_one = no_prices();
+    let mut i = 0;
+    while i < model::MAX_AGENTS {
+        price_up_to_one[i] = sums[i] - dearest[i];
+        i += 1;
+    }
+    price_up_to_one
+}
+
+// The first agent whose sum is below a limit, n where there is none.
+fn first_below(n: usize, sums: &[u64; model::MAX_AGENTS], limit: u64) -> usize
+    requires { ⌜ n ≤ maxAgents ⌝ }
+    ensures { λ r. ⌜ r ≡ firstBelow n (λ j. ltb (getD (now (sums .entry)) j 0) limit) ⌝ }
+{
+    let mut j = 0;
+    while j < n {
+        if sums[j] < limit {
+            return j;
+        }
+        j += 1;
+    }
+    n
+}
+
+// The first agent whose price up to one is above somebody's sum, n where there is none.
+fn first_envious(
+    n: usize,
+    price_up_to_one: &[u64; model::MAX_AGENTS],
+    sums: &[u64; model::MAX_AGENTS],
+) -> usize
+    requires { ⌜ n ≤ maxAgents ⌝ }
+    ensures { λ r. ⌜ r ≡ firstOfPair n (above (now («price_up_to_one» .entry)) (now (sums .entry))) ⌝ }
+{
+    let mut i = 0;
+    while i < n {
+        let limit = price_up_to_one[i];
+        if first_below(n, sums, limit) < n {
+            return i;
+        }
+        i += 1;
+    }
+    n
+}
+
+// Price envy by the first pair, or acceptance.
+fn envy_verdict(owners: &[u8], prices: &[u32], n: usize, m: usize) -> PriceVerdict
+    requires { ⌜ Paid (now owners) (now prices) m ⌝ }
+    requires { ⌜ n ≤ maxAgents ⌝ }
+    ensures { λ r. ⌜ priceReply r ≡ envyVerdict n m (ownerOf (now (owners .entry))) (priceOf (now (prices .entry))) ⌝ }
+{
+    let mut sums = no_prices();
+    let mut dearest = no_prices();
+    add_up(owners, prices, m, &mut sums, &mut dearest);
+    let price_up_to_one = take_off_dearest(&sums, &dearest);
+    let i = first_envious(n, &price_up_to_one, &sums);
+    if i == n {
+        return PriceVerdict::Accepted;
+    }
+    let limit = price_up_to_one[i];
+    let j = first_below(n, &sums, limit);
+    let envious = (i + 1) as u8;
+    let envied = (j + 1) as u8;
+    PriceVerdict::PriceEnvy(envious, envied)
+}
+
+// Whether a list of owners, with prices, is accepted.
+pub fn check_prices(sheet: &[u8], owners: &[u8], prices: &[u32]) -> PriceVerdict
+    ensures { λ r. ⌜ PricesChecked (now (sheet .entry)) (now (owners .entry)) (now (prices .entry)) r ⌝ }
+{
+    let refused = refusal(sheet, owners, prices);
+    if refused != 0 {
+        return PriceVerdict::Refused(refused);
+    }
+    let n = sheet::agents(sheet);
+    let m = sheet::chores(sheet);
+    let c = first_off_price(sheet, owners, prices, n, m);
+    if c < m {
+        let chore = (c + 1) as u16;
+        return PriceVerdict::OffPrice(chore);
+    }
+    envy_verdict(owners, prices, n, m)
+}

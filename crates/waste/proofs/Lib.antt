@@ -1,0 +1,4 @@
+pub mod Tests
+pub mod Rings
+pub mod Walking
+pub mod Shown

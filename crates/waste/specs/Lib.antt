@@ -1,0 +1,4 @@
+pub mod Rings
+pub mod Tests
+pub mod Walk
+pub mod Shown
