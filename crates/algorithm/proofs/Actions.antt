@@ -1,16 +1,18 @@
 -- Which action a state calls for, case by case, and what a step then comes to.
 -- Assumes nothing.
-use Prim.Native.Nat.{_<_}
-use mathlib.Core.Bool.{true, false}
-use mathlib.Core.Path.{_≡_, ap, _∙_}
+use Prim.Native.Nat.{ℕ, _+_, _<_}
+use mathlib.Core.Bool.{true, false, _&&_}
+use mathlib.Core.Path.{_≡_, refl, sym, ap, _∙_}
 use native.Mathlib.Omega.{arith}
+use lib.Dec.{ltb}
 use borrow.Author.Tests.{lt-ltb, eq-eqb, ne-eqb}
 use Rattle.finite.specs.Search.{anyBelow}
-use Rattle.finite.proofs.Tests.{cond-true, cond-false}
+use Rattle.finite.proofs.Tests.{cond-true, cond-false, by-test}
+use Rattle.finite.proofs.Below.{by-less}
 use Rattle.model.specs.Instance.{Instance}
 use Rattle.model.specs.Step2a.{giver2a, receiver2a, due2a, chore2a}
 use Rattle.model.specs.Step2b.{above, due2b, giver2b, receiver2b, chore2b}
-use Rattle.model.specs.Algorithm.{State, Action, hand, pass, cut, stop, owner, price, group, isEntitled, action2a, action2b, action, result, step}
+use Rattle.model.specs.Algorithm.{State, Action, hand, pass, cut, stop, lack, busy, owner, price, group, isEntitled, action2a, action2b, action, handed, afterCut, result, step}
 
 module _ (I : Instance) (s : State) where
   pub stepped : {a : Action} → action I s ≡ a → step I s ≡ result I s a
@@ -44,3 +46,31 @@ module _ (I : Instance) (s : State) where
   pub passes2a : 0 < s .stage → due2a I (owner I s) (price I s) (group I s) (isEntitled I s) (s .stage) ≡ false → action I s ≡ pass
   unfolding action2a
   passes2a some h = in-2a some ∙ rw h
+
+  -- passing on is the one action that goes on and changes neither counter
+  quiet : {t : State} (a : Action) → result I s a ≡ busy t → t .moves ≡ s .moves → t .cuts ≡ s .cuts → a ≡ pass
+  unfolding result handed afterCut
+  quiet {t} (hand c w u) e m k = let z : s .moves + 1 ≡ s .moves = cc (e, m) in absurd (omega arith)
+  quiet pass e m k = refl
+  quiet {t} cut e m k = let z : s .cuts + 1 ≡ s .cuts = cc (e, k) in absurd (omega arith)
+  quiet stop e m k = let z : _≡_ {A = ℕ} 0 1 = cc e in absurd (omega arith)
+  quiet lack e m k = let z : _≡_ {A = ℕ} 0 1 = cc e in absurd (omega arith)
+
+  -- 2b passes nothing on
+  never-passes : action2b I s ≡ pass → ⊥
+  unfolding action2b
+  never-passes q =
+      by-test (due2b I (owner I s) (price I s))
+      (λ h. by-test (ltb (receiver2b I (owner I s) (price I s)) (I .n) && ltb (chore2b I (owner I s) (price I s)) (I .m))
+      (λ r. let z : _≡_ {A = ℕ} 0 1 = cc (rw (h, r) at q) in absurd (omega arith))
+      (λ r. let z : _≡_ {A = ℕ} 0 1 = cc (rw (h, r) at q) in absurd (omega arith)))
+      (λ h. by-test (anyBelow (I .n) (above I (owner I s) (price I s)))
+      (λ r. let z : _≡_ {A = ℕ} 0 1 = cc (rw (h, r) at q) in absurd (omega arith))
+      (λ r. let z : _≡_ {A = ℕ} 0 1 = cc (rw (h, r) at q) in absurd (omega arith)))
+
+  -- so a step that changes neither counter is one of 2a
+  pub passing : {t : State} → step I s ≡ busy t → t .moves ≡ s .moves → t .cuts ≡ s .cuts → 0 < s .stage
+  unfolding step
+  passing e m k =
+      by-less 0 (s .stage) (λ h. h)
+      (λ h. absurd (never-passes (sym (in-2b (omega arith)) ∙ quiet (action I s) e m k)))

@@ -1,6 +1,8 @@
 pub mod Ready
 pub mod Looking
 pub mod Turned
-pub mod Run
+pub mod Running
 pub mod Stepped
 pub mod Staged
+pub mod Sharing
+pub mod Accepting

@@ -27,7 +27,10 @@ use Rattle.algorithm.specs.Reached.{Reached}
 use Rattle.algorithm.proofs.Best.{best-wanted, price-bound}
 use Rattle.algorithm.proofs.Reading.{read-sound}
 use Rattle.market.specs.Market.{groupOf, entitledOf, Held, Liked}
-use Rattle.market.specs.Results.{Owned, Summed, Searching}
+use Rattle.market.specs.Results.{Summed}
+use Rattle.rings.specs.Offers.{Owned, Offered, Asking}
+use Rattle.rings.specs.Search.{Searching}
+use Rattle.rings.proofs.Wanting.{offer-set}
 use Rattle.allocation.specs.Turns.{stateOf, Ready}
 
 -- prices are at most 1,000,000
@@ -94,6 +97,17 @@ module _ {s owners prices groups entitled likes sums ups : List ℕ} (R : Ready 
   unfolding asRead
   wants j c hj hc = best-wanted sound (R .core) j c hj hc
 
+  -- who wants what
+  pub asking : {free grouped : ℕ} → SetOf (length groups) free (λ i. eqb (groupOf groups i) 0) → SetOf (length groups) grouped (λ i. ltb 0 (groupOf groups i)) → Asking (asRead s) (priceOf prices) groups entitled likes free grouped
+  unfolding asRead
+  asking f g =
+      record {
+        liking = R .liking;
+        wants = wants;
+        freeAre = rw (R .groupsSized) at f;
+        groupedAre = rw (R .groupsSized) at g;
+      }
+
   module _ {sums′ ups′ : List ℕ} (T : Summed (agentsOf s) (length owners) owners prices sums′ ups′) where
     pub sum-is : (i : ℕ) → i < agentsOf s → getD sums′ i 0 ≡ priceSum (choresOf s) (ownerOf owners) (priceOf prices) i
     sum-is i h = T .sum i h ∙ ap (λ m. priceSum m (ownerOf owners) (priceOf prices) i) (R .ownersSized)
@@ -105,20 +119,16 @@ module _ {s owners prices groups entitled likes sums ups : List ℕ} (R : Ready 
     unfolding asRead leastSum
     least-is e = e ∙ low-cong (agentsOf s) sum-is
 
-    -- what the search of 2b is given
-    pub searching : {least start free grouped : ℕ} → least ≡ minTo (agentsOf s) (λ i. getD sums′ i 0) → SetOf (agentsOf s) start (λ i. eqb (getD sums′ i 0) least) → SetOf (length groups) free (λ i. eqb (groupOf groups i) 0) → SetOf (length groups) grouped (λ i. ltb 0 (groupOf groups i)) → Searching (asRead s) (priceOf prices) owners groups entitled likes ups′ least start free grouped
+    -- what the search of 2b starts from
+    pub searching : {offers : List ℕ} {least start free grouped : ℕ} → Asking (asRead s) (priceOf prices) groups entitled likes free grouped → Offered owners entitled likes free grouped (length owners) offers → least ≡ minTo (agentsOf s) (λ i. getD sums′ i 0) → SetOf (agentsOf s) start (λ i. eqb (getD sums′ i 0) least) → Searching (asRead s) (ownerOf owners) (priceOf prices) offers ups′ least start
     unfolding asRead ofLeastSum
-    searching {least} {start} {free} {grouped} e b f g =
+    searching {least = least} a o e b =
         record {
           some = R .valid .someAgent;
-          owned = owner-below;
-          liking = R .liking;
-          wants = wants;
+          offered = λ i h. offer-set a (rw (R .ownersSized) at o) i h (R .valid .agentsFit);
           up = up-is;
           leastIs = least-is e;
           startIs = set-cong (λ i h. ap (λ v. eqb v least) (sum-is i h) ∙ ap (λ v. eqb (priceSum (choresOf s) (ownerOf owners) (priceOf prices) i) v) (least-is e)) b;
-          othersAre = rw (R .groupsSized) at f;
-          membersAre = rw (R .groupsSized) at g;
         }
 
     pub any-is : {least : ℕ} {any : Bool} → least ≡ minTo (agentsOf s) (λ i. getD sums′ i 0) → any ≡ anyBelow (agentsOf s) (λ i. ltb least (getD ups′ i 0)) → any ≡ anyBelow (agentsOf s) (above (asRead s) (ownerOf owners) (priceOf prices))

@@ -1,3 +1,4 @@
 pub mod Turns
 pub mod Looks
 pub mod Runs
+pub mod Shared

@@ -1,2 +1,134 @@
 // The share-out: Algorithm 1 on a sheet.
+ghost use mathlib.Core.Path.{_≡_};
+ghost use lib.ListN.{length, replicate};
+ghost use Rattle.model.specs.Limits.{maxAgents, maxChores};
+ghost use Rattle.model.specs.Refusals.{allocateRefusal};
+ghost use Rattle.model.specs.Promises.{Allocated};
+ghost use Rattle.allocation.specs.Shared.{Sharing, Working, Shared};
+
+pub mod run;
 pub mod steps;
+
+use crate::run::Counts;
+use crate::run::run;
+use market::opening::open;
+
+// Each working list is made in a function of its own, so that its entries are one value where it is used.
+fn no_groups() -> [u8; model::MAX_AGENTS]
+    ensures { λ r. ⌜ r ≡ replicate maxAgents 0 ⌝ }
+{
+    [0; model::MAX_AGENTS]
+}
+
+fn none_entitled() -> [u8; model::MAX_CHORES]
+    ensures { λ r. ⌜ r ≡ replicate maxChores 0 ⌝ }
+{
+    [0; model::MAX_CHORES]
+}
+
+fn no_likes() -> [u32; model::MAX_CHORES]
+    ensures { λ r. ⌜ length r ≡ maxChores ⌝ }
+{
+    [0; model::MAX_CHORES]
+}
+
+fn no_sums() -> [u32; model::MAX_AGENTS]
+    ensures { λ r. ⌜ length r ≡ maxAgents ⌝ }
+{
+    [0; model::MAX_AGENTS]
+}
+
+// The opening and the run, with working lists of the lengths that the sheet asks for.
+fn share_with(
+    sheet: &[u8],
+    owners: &mut [u8],
+    prices: &mut [u32],
+    groups: &mut [u8],
+    entitled: &mut [u8],
+    likes: &mut [u32],
+    sums: &mut [u32],
+    ups: &mut [u32],
+) -> Counts
+    requires { ⌜ Sharing (now sheet) (now owners) (now prices) × Working (now sheet) (now groups) (now entitled) (now likes) (now sums) (now ups) ⌝ }
+    ensures { λ r. ⌜ Shared (now (sheet .entry)) (now (owners .exit)) (now (prices .exit)) (r .moves) (r .cuts) ⌝ }
+{
+    let n = sheet::agents(sheet);
+    let m = sheet::chores(sheet);
+    open(sheet, n, m, owners, prices, likes);
+    run(sheet, owners, prices, groups, entitled, likes, sums, ups)
+}
+
+// The share-out of a sheet that breaks no rule, into lists of one entry for each chore.
+fn share(sheet: &[u8], owners: &mut [u8], prices: &mut [u32]) -> Counts
+    requires { ⌜ Sharing (now sheet) (now owners) (now prices) ⌝ }
+    ensures { λ r. ⌜ Shared (now (sheet .entry)) (now (owners .exit)) (now (prices .exit)) (r .moves) (r .cuts) ⌝ }
+{
+    let n = sheet::agents(sheet);
+    let m = sheet::chores(sheet);
+    let mut groups = no_groups();
+    let mut entitled = none_entitled();
+    let mut likes = no_likes();
+    let mut sums = no_sums();
+    let mut ups = no_sums();
+    share_with(
+        sheet,
+        owners,
+        prices,
+        &mut groups[0..n],
+        &mut entitled[0..m],
+        &mut likes[0..m],
+        &mut sums,
+        &mut ups,
+    )
+}
+
+// The number that a share-out is turned down with, 0 where it is not.
+fn allocate_refusal(sheet: &[u8], owners: usize, prices: usize, scratch: usize) -> u8
+    ensures { λ r. ⌜ r ≡ allocateRefusal (now (sheet .entry)) owners prices scratch ⌝ }
+{
+    let of_sheet = sheet::sheet_refusal(sheet);
+    if of_sheet != 0 {
+        return of_sheet;
+    }
+    let m = sheet::chores(sheet);
+    let of_owners = sheet::lent_refusal(m, owners);
+    if of_owners != 0 {
+        return of_owners;
+    }
+    let of_prices = sheet::lent_refusal(m, prices);
+    if of_prices != 0 {
+        return of_prices;
+    }
+    sheet::lent_refusal(model::SCRATCH_SIZE, scratch)
+}
+
+// A book clears its scratch by this too, before its first sheet.
+pub fn clear(xs: &mut [u8])
+    ensures { λ r. ⌜ now (xs .exit) ≡ replicate (length (now (xs .entry))) 0 ⌝ }
+{
+    let mut i = 0;
+    while i < xs.len() {
+        xs[i] = 0;
+        i += 1;
+    }
+}
+
+pub fn allocate(
+    sheet: &[u8],
+    owners: &mut [u8],
+    prices: &mut [u32],
+    scratch: &mut [u8],
+) -> model::ShareOut
+    ensures { λ r. ⌜ Allocated (now (sheet .entry)) (now (owners .entry)) (now (prices .entry)) (now (scratch .entry)) (now (owners .exit)) (now (prices .exit)) (now (scratch .exit)) r ⌝ }
+{
+    let refusal = allocate_refusal(sheet, owners.len(), prices.len(), scratch.len());
+    if refusal != 0 {
+        return model::ShareOut::Refused(refusal);
+    }
+    let m = sheet::chores(sheet);
+    let counts = share(sheet, &mut owners[0..m], &mut prices[0..m]);
+    clear(scratch);
+    let moves = counts.moves;
+    let cuts = counts.cuts;
+    model::ShareOut::Shared { moves, cuts }
+}

@@ -1,19 +1,16 @@
 // One turn of the loop is one step of Algorithm 1.
 ghost use mathlib.Core.Path.{_≡_};
 ghost use Prim.Native.Nat.{ℕ, _+_, _<_};
-ghost use lib.ListN.{length, set};
+ghost use lib.ListN.{length, set, replicate};
 ghost use Rattle.model.specs.Sheet.{asRead};
 ghost use Rattle.model.specs.Algorithm.{step};
 ghost use Rattle.allocation.specs.Turns.{stateOf, named, Ready, Turning};
-ghost use Rattle.allocation.specs.Looks.{Look, Handing, receiverFrom, choreFor};
+ghost use Rattle.allocation.specs.Looks.{Look, Handing, lowestOf, choreFor};
 use market::choices::first_free;
 use market::choices::greatest_in;
 use market::choices::least_after;
 use market::cuts::cut_groups;
 use market::cuts::cut_prices;
-use market::rings::first_wanted;
-use market::rings::search;
-use market::rings::wanters;
 use market::sums::any_above;
 use market::sums::least_of;
 use market::sums::members;
@@ -21,7 +18,9 @@ use market::sums::of_sum;
 use market::sums::others;
 use market::sums::sum_up;
 use market::words::lowest;
-use market::words::with;
+use rings::offers::add_offers;
+use rings::offers::first_wanted;
+use rings::search::search;
 
 // What a step did.
 pub enum Turn {
@@ -34,11 +33,18 @@ pub enum Turn {
 // What the search of 2b found, the agents in no group and in some group, and whether anybody is above the least sum.
 struct Seen {
     giver: usize,
-    before: u32,
+    takers: u32,
     reached: u32,
     free: u32,
     grouped: u32,
     any: bool,
+}
+
+// Made in a function of its own, so that its entries are one value where it is used.
+fn no_offers() -> [u32; model::MAX_AGENTS]
+    ensures { λ r. ⌜ r ≡ replicate 32 0 ⌝ }
+{
+    [0; model::MAX_AGENTS]
 }
 
 fn look(
@@ -52,7 +58,7 @@ fn look(
     ups: &mut [u32],
 ) -> Seen
     requires { ⌜ Ready (now sheet) (now owners) (now prices) (now groups) (now entitled) (now likes) (now sums) (now ups) ⌝ }
-    ensures { λ r. ⌜ Look (now (sheet .entry)) (now (owners .entry)) (now (prices .entry)) (now (groups .entry)) (now (entitled .entry)) (now (likes .entry)) (now (ups .exit)) (r .giver) (r .before) (r .reached) (r .free) (r .grouped) (r .any) ⌝ }
+    ensures { λ r. ⌜ Look (now (sheet .entry)) (now (owners .entry)) (now (prices .entry)) (now (groups .entry)) (now (entitled .entry)) (now (likes .entry)) (r .giver) (r .takers) (r .reached) (r .free) (r .grouped) (r .any) ⌝ }
 {
     let n = sheet::agents(sheet);
     sum_up(n, owners, prices, sums, ups);
@@ -61,10 +67,12 @@ fn look(
     let free = others(groups);
     let grouped = members(groups);
     let any = any_above(n, ups, least);
-    let found = search(n, owners, entitled, likes, ups, least, start, free, grouped);
+    let mut offers = no_offers();
+    add_offers(owners, entitled, likes, free, grouped, &mut offers);
+    let found = search(n, &offers, ups, least, start);
     Seen {
         giver: found.giver,
-        before: found.before,
+        takers: found.takers,
         reached: found.reached,
         free,
         grouped,
@@ -72,33 +80,29 @@ fn look(
     }
 }
 
-// The giver w hands over the lowest chore that the lowest agent of the ring before wants.
+// The giver w hands the lowest of the takers the lowest chore that this one wants.
 fn hand_over(
     n: usize,
     owners: &mut [u8],
     entitled: &[u8],
     likes: &[u32],
     w: usize,
-    before: u32,
+    takers: u32,
     free: u32,
     grouped: u32,
 )
-    requires { ⌜ Handing n (now owners) (now entitled) (now likes) w before free grouped ⌝ }
+    requires { ⌜ Handing n (now owners) (now entitled) (now likes) w takers free grouped ⌝ }
     ensures { λ r. ⌜ now (owners .exit) ≡ set (now (owners .entry))
-        (choreFor (now (owners .entry)) (now (entitled .entry)) (now (likes .entry)) w (receiverFrom n (now (owners .entry)) (now (entitled .entry)) (now (likes .entry)) w before free grouped) free grouped)
-        (receiverFrom n (now (owners .entry)) (now (entitled .entry)) (now (likes .entry)) w before free grouped + 1) ⌝ }
+        (choreFor (now (owners .entry)) (now (entitled .entry)) (now (likes .entry)) w (lowestOf n takers) free grouped)
+        (lowestOf n takers + 1) ⌝ }
 {
-    let u = lowest(
-        wanters(owners, entitled, likes, w, before & free, before & grouped),
-        n,
-    );
-    let one = with(0, u);
-    let c = first_wanted(owners, entitled, likes, w, one & free, one & grouped);
+    let u = lowest(takers, n);
+    let c = first_wanted(owners, entitled, likes, w, u, free, grouped);
     owners[c] = u as u8 + 1;
 }
 
 // Step 2b, and step 3 where 2b has ended.
-fn step_2b(
+pub fn step_2b(
     sheet: &[u8],
     owners: &mut [u8],
     prices: &mut [u32],
@@ -124,7 +128,7 @@ fn step_2b(
             entitled,
             likes,
             giver,
-            seen.before,
+            seen.takers,
             seen.free,
             seen.grouped,
         );
@@ -141,7 +145,7 @@ fn step_2b(
 }
 
 // Step 2a at the group at work.
-fn step_2a(
+pub fn step_2a(
     sheet: &[u8],
     owners: &mut [u8],
     prices: &[u32],

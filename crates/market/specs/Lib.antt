@@ -1,5 +1,4 @@
 pub mod Market
-pub mod Words
 pub mod Results
 pub mod Adding
 pub mod Opened

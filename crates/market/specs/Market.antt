@@ -7,9 +7,8 @@ use lib.Dec.{eqb}
 use lib.ListN.{length, getD}
 use Rattle.finite.specs.Bits.{SetOf}
 use Rattle.model.specs.Limits.{maxAgents, maxChores, maxPrice}
-use Rattle.model.specs.Instance.{Instance, priceOf}
-use Rattle.model.specs.Prices.{best}
-use Rattle.algorithm.specs.Kinds.{ok, wanted}
+use Rattle.model.specs.Instance.{Instance}
+use Rattle.algorithm.specs.Kinds.{ok}
 
 -- the group of agent i, and whether chore c is entitled, in the lists of a state
 unfoldable pub groupOf : List ℕ → ℕ → ℕ
@@ -32,12 +31,3 @@ pub record Held (n m : ℕ) (owners prices : List ℕ) : Type 0 where
 pub record Liked (I : Instance) (likes : List ℕ) : Type 0 where
   pub likesSized : length likes ≡ I .m
   pub liked : (c : ℕ) → c < I .m → SetOf (I .n) (getD likes c 0) (λ i. ok I i c)
-
--- the lists of a state of the market I, where `best` comes to `wanted`
-pub record Market (I : Instance) (owners prices groups entitled likes : List ℕ) : Type 0 where
-  pub some : 0 < I .n
-  pub held : Held (I .n) (I .m) owners prices
-  pub groupsSized : length groups ≡ I .n
-  pub entitledSized : length entitled ≡ I .m
-  pub liking : Liked I likes
-  pub wants : (j c : ℕ) → j < I .n → c < I .m → best I (priceOf prices) j c ≡ wanted I (groupOf groups) (entitledOf entitled) j c

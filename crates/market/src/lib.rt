@@ -1,7 +1,6 @@
-// The parts of a step of Algorithm 1: sums, sets of agents, the search of 2b, the choices of 2a, the changes.
+// The parts of a step of Algorithm 1: sums, sets of agents, the choices of 2a, the changes.
 pub mod choices;
 pub mod cuts;
 pub mod opening;
-pub mod rings;
 pub mod sums;
 pub mod words;

@@ -1,5 +1,9 @@
+-- `allocation::steps::look` meets its contract.
+use native.Mathlib.Omega.{arith}
 use borrow.Author.Needs.{needs}
-use Rattle.allocation.proofs.Ready.{held, owned, searching, any-is}
+use Rattle.model.specs.Sheet.{asRead}
+use mathlib.Core.Path.{refl}
+use Rattle.allocation.proofs.Ready.{held, owned, asking, searching, any-is}
 use Rattle.allocation.proofs.steps.look.Statement.{statement}
 use Rattle.allocation.proofs.steps.look.Tie as tie
 
@@ -26,8 +30,23 @@ members-requires c κs = search needs
 any-above-requires : tie.Need-any-above-requires
 any-above-requires c κs = search needs
 
+no-offers-requires : tie.Need-no-offers-requires
+no-offers-requires c κs = search needs
+
+slice-aggregate-add-offers : tie.Need-slice-aggregate-add-offers
+slice-aggregate-add-offers c = search needs
+
+add-offers-requires : tie.Need-add-offers-requires
+add-offers-requires c κs = (owned (c .before .before .before .before .before .before .before .before .before .before .before .before .before .before .before .before .before .before .before .before .before .before .before .before .before .before .pre), c .before .no-offers .ensures)
+
+slice-aggregate-search : tie.Need-slice-aggregate-search
+slice-aggregate-search c = search needs
+
 search-requires : tie.Need-search-requires
-search-requires c κs = (owned (c .before .before .before .before .before .before .before .before .before .before .before .before .before .before .before .before .before .before .before .before .before .before .before .before .before .pre), search needs, search needs)
+search-requires c κs =
+    let n-is = c .before .before .before .before .before .before .before .before .before .before .before .before .before .before .before .before .before .before .before .before .before .agents .ensures .is in
+    let fits = c .before .before .before .before .before .before .before .before .before .before .before .before .before .before .before .before .before .before .before .before .before .before .before .before .before .before .before .before .before .before .pre .valid .agentsFit in
+    (omega (arith, n-is, fits), omega (arith, n-is, fits, c .before .before .before .add-offers .ensures .size), omega (arith, n-is, fits, c .before .before .before .before .before .before .before .before .before .before .before .before .before .before .before .before .before .before .sum-up .ensures .ups-sized))
 
 same-length : tie.Need-same-length
 same-length c = search needs
@@ -36,16 +55,18 @@ same-length-2 : tie.Need-same-length-2
 same-length-2 c = search needs
 
 returns : tie.Need-returns
+unfolding asRead
 returns c =
-    let R = c .before .before .before .before .before .before .before .before .before .before .before .before .before .before .before .before .before .before .before .before .before .before .before .before .before .before .pre in
-    let T = rw (c .before .before .before .before .before .before .before .before .before .before .before .before .before .before .before .before .before .agents .ensures .is) at (c .before .before .before .before .before .before .before .before .before .before .before .before .before .before .sum-up .ensures) in
-    let e = rw (c .before .before .before .before .before .before .before .before .before .before .before .before .before .before .before .before .before .agents .ensures .is) at (c .before .before .before .before .before .before .before .before .least-of .ensures) in
+    let R = c .before .before .before .before .before .before .before .before .before .before .before .before .before .before .before .before .before .before .before .before .before .before .before .before .before .before .before .before .before .before .before .pre in
+    let n-is = c .before .before .before .before .before .before .before .before .before .before .before .before .before .before .before .before .before .before .before .before .before .before .agents .ensures .is in
+    let T = rw n-is at (c .before .before .before .before .before .before .before .before .before .before .before .before .before .before .before .before .before .before .before .sum-up .ensures) in
+    let e = rw n-is at (c .before .before .before .before .before .before .before .before .before .before .before .before .before .least-of .ensures) in
+    let a = asking R (c .before .before .before .before .before .before .before .before .before .before .others .ensures) (c .before .before .before .before .before .before .before .before .before .members .ensures) in
+    let s = searching R T a (c .before .before .before .before .add-offers .ensures) e (rw n-is at (c .before .before .before .before .before .before .before .before .before .before .before .of-sum .ensures)) in
     record {
-      least = c .before .before .before .before .before .before .before .before .least-of .result;
-      start = c .before .before .before .before .before .before .of-sum .result;
-      searching = searching R T e (rw (c .before .before .before .before .before .before .before .before .before .before .before .before .before .before .before .before .before .agents .ensures .is) at (c .before .before .before .before .before .before .of-sum .ensures)) (c .before .before .before .before .before .others .ensures) (c .before .before .before .before .members .ensures);
-      answered = rw (c .before .before .before .before .before .before .before .before .before .before .before .before .before .before .before .before .before .agents .ensures .is) at (c .search .ensures);
-      anyIs = any-is R T e (rw (c .before .before .before .before .before .before .before .before .before .before .before .before .before .before .before .before .before .agents .ensures .is) at (c .before .before .any-above .ensures));
+      searched = (rw n-is at (c .search .ensures)) .searched _ _ _ refl s;
+      asking = a;
+      anyIs = any-is R T e (rw n-is at (c .before .before .before .before .before .before .before .any-above .ensures));
     }
 
 pub look-spec : {M : Type 1} → statement M
@@ -59,6 +80,10 @@ look-spec =
     others-requires
     members-requires
     any-above-requires
+    no-offers-requires
+    slice-aggregate-add-offers
+    add-offers-requires
+    slice-aggregate-search
     search-requires
     same-length
     same-length-2

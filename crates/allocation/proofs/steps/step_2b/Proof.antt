@@ -13,7 +13,7 @@ look-requires c κs = search needs
 hand-over-requires : tie.Need-hand-over-requires
 hand-over-requires c κs =
     let n-is = c .before .before .before .before .before .before .before .before .before .before .before .before .before .before .agents .ensures .is in
-    rw n-is (handing (c .before .before .before .before .before .before .before .before .before .before .before .before .before .before .before .before .before .before .before .before .before .before .before .pre) (c .before .before .before .before .before .before .before .look .ensures) (rw n-is at (c .before .before .if1 .taken)))
+    rw n-is (handing (c .before .before .before .before .before .before .before .before .before .before .before .before .before .before .before .before .before .before .before .before .before .before .before .pre) (c .before .before .before .before .before .before .before .look .ensures) (omega (arith, n-is, (c .before .before .if1 .taken))))
 
 same-length : tie.Need-same-length
 same-length c = search needs
@@ -36,7 +36,7 @@ same-length-6 c = search needs
 returns : tie.Need-returns
 returns c =
     let n-is = c .before .before .before .before .before .before .before .before .before .before .before .before .before .before .before .before .before .agents .ensures .is in
-    moves-on (c .before .before .before .before .before .before .before .before .before .before .before .before .before .before .before .before .before .before .before .before .before .before .before .before .before .before .pre) (c .before .before .before .before .before .before .before .before .before .before .look .ensures) (rw n-is at (c .before .before .before .before .before .if1 .taken)) (rw n-is at (c .before .before .hand-over .ensures))
+    moves-on (c .before .before .before .before .before .before .before .before .before .before .before .before .before .before .before .before .before .before .before .before .before .before .before .before .before .before .pre) (c .before .before .before .before .before .before .before .before .before .before .look .ensures) (omega (arith, n-is, (c .before .before .before .before .before .if1 .taken))) (rw n-is at (c .before .before .hand-over .ensures))
 
 easy-weight-requires : tie.Need-easy-weight-requires
 easy-weight-requires c κs = c .before .before .before .before .before .before .before .before .before .before .before .before .before .before .before .before .before .before .before .before .before .before .pre .ready .valid .header
@@ -74,7 +74,7 @@ same-length-12 c = search needs
 returns-2 : tie.Need-returns-2
 returns-2 c =
     let n-is = c .before .before .before .before .before .before .before .before .before .before .before .before .before .before .before .before .before .before .before .before .before .before .before .before .before .before .before .agents .ensures .is in
-    cuts-on (c .before .before .before .before .before .before .before .before .before .before .before .before .before .before .before .before .before .before .before .before .before .before .before .before .before .before .before .before .before .before .before .before .before .before .before .before .pre) (c .before .before .before .before .before .before .before .before .before .before .before .before .before .before .before .before .before .before .before .before .look .ensures) (rw n-is at (c .before .before .before .before .before .before .before .before .before .before .before .before .before .before .before .if1 .left)) (c .before .before .before .before .before .before .before .before .before .before .before .before .before .before .if2 .taken)
+    cuts-on (c .before .before .before .before .before .before .before .before .before .before .before .before .before .before .before .before .before .before .before .before .before .before .before .before .before .before .before .before .before .before .before .before .before .before .before .before .pre) (c .before .before .before .before .before .before .before .before .before .before .before .before .before .before .before .before .before .before .before .before .look .ensures) (omega (arith, n-is, (c .before .before .before .before .before .before .before .before .before .before .before .before .before .before .before .if1 .left))) (c .before .before .before .before .before .before .before .before .before .before .before .before .before .before .if2 .taken)
     (rw (c .before .before .before .before .before .before .before .before .before .before .before .before .before .easy-weight .ensures .is, c .before .before .before .before .before .before .before .before .before .before .before .before .difficult-weight .ensures .is) at (c .before .before .before .before .before .before .before .before .cut-prices .ensures))
     (c .before .before .cut-groups .ensures)
 
@@ -98,7 +98,7 @@ same-length-18 c = search needs
 
 returns-3 : tie.Need-returns-3
 returns-3 c =
-    stops-here (c .before .before .before .before .before .before .before .before .before .before .before .before .before .before .before .before .before .before .before .before .before .before .pre) (c .before .before .before .before .before .before .look .ensures) (rw (c .before .before .before .before .before .before .before .before .before .before .before .before .before .agents .ensures .is) at (c .before .if1 .left)) (c .if2 .left)
+    stops-here (c .before .before .before .before .before .before .before .before .before .before .before .before .before .before .before .before .before .before .before .before .before .before .pre) (c .before .before .before .before .before .before .look .ensures) (omega (arith, (c .before .before .before .before .before .before .before .before .before .before .before .before .before .agents .ensures .is), (c .before .if1 .left))) (c .if2 .left)
 
 pub step-2b-spec : {M : Type 1} → statement M
 step-2b-spec =

@@ -45,6 +45,7 @@ mul-prices c = search needs
 slice-read-prices : tie.Need-slice-read-prices Inv-loop μ-loop
 slice-read-prices c = search needs
 
+-- the product with either weight fits: a code that takes the wrong one is refused for the price that it leaves
 mul-prices-2 : tie.Need-mul-prices-2 Inv-loop μ-loop
 mul-prices-2 c =
     let at = c .before .before .before .before .before .loop in
@@ -52,7 +53,7 @@ mul-prices-2 c =
     let l : at .c < length (c .before .before .before .before .before .before .before .before .before .args .owners .now) = omega arith in
     let p : getD (at .prices) (at .c) 0 ≤ maxPrice = omega (arith, at .inv .1 .rest (at .c) (le-refl (at .c)), pre .bounded (at .c) l) in
     let w : c .before .before .before .before .before .before .before .before .before .args .a ≤ maxWeight = omega (arith, pre .less, pre .weight) in
-    omega (arith, mul-le-mul p w)
+    omega (arith, mul-le-mul p w, mul-le-mul p (pre .weight))
 
 div-prices : tie.Need-div-prices Inv-loop μ-loop
 div-prices c = search needs

@@ -1,0 +1,44 @@
+-- The share-out of a sheet that breaks no rule: what the opening and the loop are given, and what the whole leaves.
+-- Assumes nothing.
+use Prim.Native.Nat.{ℕ, _-_, _≤_}
+use mathlib.Core.List.{List}
+use mathlib.Core.Path.{_≡_, sym, _∙_}
+use native.Mathlib.Omega.{arith}
+use lib.ListN.{length, take, replicate}
+use lib.Seq.{length-take-le}
+use Rattle.finite.proofs.Lists.{tab-const, tab-take}
+use Rattle.model.specs.Sheet.{agentsOf, choresOf, asRead}
+use Rattle.model.specs.Algorithm.{opening, after}
+use Rattle.market.specs.Opened.{OpenInto, Opened}
+use Rattle.allocation.specs.Runs.{Running, Kit}
+use Rattle.allocation.specs.Shared.{Sharing, Working}
+
+-- the part `xs[0..j]` of a list of one value, and its length for any list
+pub first-of : {n k j : ℕ} {xs : List ℕ} → xs ≡ replicate n 0 → j ≡ k → k ≤ n → take (j - 0) xs ≡ replicate k 0
+first-of {n} {k} {j} e q h =
+    let z : j - 0 ≡ k = omega arith in
+    rw (e, z, tab-const n 0) (tab-take {n = k} (λ i. 0) h ∙ sym (tab-const k 0))
+
+pub first-sized : {n k j : ℕ} (xs : List ℕ) → length xs ≡ n → j ≡ k → k ≤ n → length (take (j - 0) xs) ≡ k
+first-sized {n} {k} {j} xs e q h =
+    let z : j - 0 ≡ k = omega arith in
+    rw z (length-take-le k xs (rw e h))
+
+module _ {s owners prices groups entitled likes sums ups : List ℕ} (S : Sharing s owners prices) (W : Working s groups entitled likes sums ups) where
+  pub opening-of : {n m : ℕ} → n ≡ agentsOf s → m ≡ choresOf s → OpenInto s n m owners prices likes
+  opening-of a b =
+      record {
+        on = record { valid = S .valid; agents = a; chores = b };
+        ownersSized = S .ownersSized ∙ sym b;
+        pricesSized = S .pricesSized ∙ sym b;
+        likesSized = W .likesSized ∙ sym b;
+      }
+
+  module _ {owners′ prices′ likes′ : List ℕ} (O : Opened s owners′ prices′ likes′) where
+    pub kit-of : Kit s likes′ sums ups
+    kit-of = record { valid = S .valid; liking = O .liking; sumsSized = W .sumsSized; upsSized = W .upsSized }
+
+    -- no step has been done yet
+    pub begins : Running s owners′ prices′ groups entitled 0 0 0
+    unfolding after opening asRead
+    begins = record { count = 0; comes = rw (W .noGroups, W .noneEntitled, O .opensOwners, O .opensPrices) }

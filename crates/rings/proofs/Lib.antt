@@ -1,0 +1,4 @@
+pub mod Offering
+pub mod Wanting
+pub mod Ringed
+pub mod Found
