@@ -1,3 +1,7 @@
-pub mod Bodies
-pub mod Refusal
-pub mod Lookup
+pub mod Finals
+pub mod Results
+pub mod Rest
+pub mod Stretches
+pub mod Passed
+pub mod Outcome
+pub mod Answers

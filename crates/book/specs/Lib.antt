@@ -1,2 +1,4 @@
-pub mod Parts
-pub mod Fits
+pub mod Said
+pub mod Finals
+pub mod Steps
+pub mod Passed

@@ -1,3 +1,122 @@
-// Books of sheets.
+// The share-out of a whole book: sheet after sheet, each into the next free stretch of the long lists.
 
-pub mod contents;
+mod refusal;
+mod tally;
+
+ghost use mathlib.Core.Path.{_≡_};
+ghost use Rattle.model.specs.Replies.{sheetReply};
+ghost use Rattle.model.specs.Promises.{BookSharedOut, BookAllocated};
+ghost use Rattle.book.specs.Said.{placed};
+ghost use Rattle.book.specs.Steps.{noEntries, Answered, Taken, Room, RestShared, Fine, TurnedDown};
+
+// The number for a sheet that the book does not have.
+const NO_SHEET: u8 = 9;
+
+fn no_sheets() -> [model::SheetEntry; model::MAX_SHEETS]
+    ensures { λ r. ⌜ r ≡ noEntries ⌝ }
+{
+    let none = model::SheetEntry {
+        result: model::SheetResult::Refused(NO_SHEET),
+    };
+    [none; model::MAX_SHEETS]
+}
+
+// What the book's results say of a sheet whose entries would start at `first`.
+fn entry(out: model::ShareOut, first: usize) -> model::SheetEntry
+    ensures { λ r. ⌜ sheetReply (r .result) ≡ placed first out ⌝ }
+{
+    match out {
+        model::ShareOut::Refused(number) => model::SheetEntry {
+            result: model::SheetResult::Refused(number),
+        },
+        model::ShareOut::Shared { moves, cuts } => model::SheetEntry {
+            result: model::SheetResult::Shared { moves, cuts, first },
+        },
+    }
+}
+
+// How many entries a sheet takes. A refused one may lack the byte that says its chores.
+fn entries(sheet: &[u8], out: model::ShareOut) -> usize
+    requires { ⌜ Answered (now sheet) out ⌝ }
+    ensures { λ r. ⌜ Taken (now (sheet .entry)) out r ⌝ }
+{
+    match out {
+        model::ShareOut::Refused(_) => 0,
+        model::ShareOut::Shared { moves: _, cuts: _ } => sheet::chores(sheet),
+    }
+}
+
+// The share-out of one sheet, with the free rest of each long list lent to it.
+fn share_rest(
+    sheet: &[u8],
+    first: usize,
+    owners: &mut [u8],
+    prices: &mut [u32],
+    scratch: &mut [u8],
+) -> model::ShareOut
+    requires { ⌜ Room first (now owners) (now prices) (now scratch) ⌝ }
+    ensures { λ r. ⌜ RestShared (now (sheet .entry)) first (now (owners .entry)) (now (prices .entry)) (now (scratch .entry)) (now (owners .exit)) (now (prices .exit)) (now (scratch .exit)) r ⌝ }
+{
+    allocation::allocate(sheet, &mut owners[first..], &mut prices[first..], scratch)
+}
+
+// The sheets one after the other; `first` is the first entry that is free.
+fn share_sheets(
+    book: &[u8],
+    owners: &mut [u8],
+    prices: &mut [u32],
+    scratch: &mut [u8],
+) -> model::BookResult
+    requires { ⌜ Fine (now book) (now owners) (now prices) (now scratch) ⌝ }
+    ensures { λ r. ⌜ BookSharedOut (now (book .entry)) (now (owners .entry)) (now (prices .entry)) (now (scratch .entry)) (now (owners .exit)) (now (prices .exit)) (now (scratch .exit)) r ⌝ }
+{
+    let k = contents::count(book);
+    let mut sheets = no_sheets();
+    let mut total = tally::none();
+    let mut first = 0;
+    let mut j = 0;
+    while j < k {
+        let sheet = contents::sheet_at(book, j);
+        let out = share_rest(sheet, first, owners, prices, scratch);
+        sheets[j] = entry(out, first);
+        total = tally::tallied(total, out);
+        first += entries(sheet, out);
+        j += 1;
+    }
+    model::BookResult {
+        refusal: 0,
+        count: k as u8,
+        sheets,
+        tally: total,
+    }
+}
+
+fn turned_down(refusal: u8) -> model::BookResult
+    ensures { λ r. ⌜ TurnedDown refusal r ⌝ }
+{
+    let sheets = no_sheets();
+    let total = tally::none();
+    model::BookResult {
+        refusal,
+        count: 0,
+        sheets,
+        tally: total,
+    }
+}
+
+// The scratch is cleared first, since no share-out clears it where each sheet is refused.
+pub fn allocate_book(
+    book: &[u8],
+    owners: &mut [u8],
+    prices: &mut [u32],
+    scratch: &mut [u8],
+) -> model::BookResult
+    ensures { λ r. ⌜ BookAllocated (now (book .entry)) (now (owners .entry)) (now (prices .entry)) (now (scratch .entry)) (now (owners .exit)) (now (prices .exit)) (now (scratch .exit)) r ⌝ }
+{
+    let number = refusal::book_refusal(book, owners.len(), prices.len(), scratch.len());
+    if number != 0 {
+        return turned_down(number);
+    }
+    allocation::clear(scratch);
+    share_sheets(book, owners, prices, scratch)
+}
