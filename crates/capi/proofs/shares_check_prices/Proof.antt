@@ -1,17 +1,38 @@
-use mathlib.Core.Path.{ap, _∙_}
+-- `capi::shares_check_prices` meets its contract: a refused sheet decides by itself.
 use borrow.Author.Needs.{needs}
-use Rattle.capi.specs.Numbers.{number}
+use Rattle.capi.proofs.PriceChecks.{refused-sheet}
 use Rattle.capi.proofs.shares_check_prices.Statement.{statement}
 use Rattle.capi.proofs.shares_check_prices.Tie as tie
+
+sheet-refusal-requires : tie.Need-sheet-refusal-requires
+sheet-refusal-requires c κs = search needs
+
+cast-result : tie.Need-cast-result
+cast-result c = search needs
+
+returns : tie.Need-returns
+returns c = refused-sheet _ _ _ (c .before .sheet-refusal .ensures) (c .if1 .taken)
+
+for-chores-and-one-requires : tie.Need-for-chores-and-one-requires
+for-chores-and-one-requires c κs = search needs
+
+slice-aggregate-check-prices : tie.Need-slice-aggregate-check-prices
+slice-aggregate-check-prices c = search needs
 
 check-prices-requires : tie.Need-check-prices-requires
 check-prices-requires c κs = search needs
 
-price-number-requires : tie.Need-price-number-requires
-price-number-requires c κs = search needs
-
-returns : tie.Need-returns
-returns c = c .price-number .ensures ∙ ap number (c .before .check-prices .ensures .answer)
+returns-2 : tie.Need-returns-2
+returns-2 c = search needs
 
 pub shares-check-prices-spec : {M : Type 1} → statement M
-shares-check-prices-spec = tie.close (tie.spec check-prices-requires price-number-requires returns)
+shares-check-prices-spec =
+    tie.close
+    (tie.spec
+    sheet-refusal-requires
+    cast-result
+    returns
+    for-chores-and-one-requires
+    slice-aggregate-check-prices
+    check-prices-requires
+    returns-2)

@@ -2,8 +2,8 @@ use mathlib.Core.Path.{sym, ap}
 use borrow.Author.Needs.{needs}
 use Rattle.model.specs.Replies.{listReply}
 use Rattle.capi.specs.Numbers.{number}
-use Rattle.capi.proofs.list_number.Statement.{statement}
-use Rattle.capi.proofs.list_number.Tie as tie
+use Rattle.capi.proofs.answers.list_number.Statement.{statement}
+use Rattle.capi.proofs.answers.list_number.Tie as tie
 
 enum-known-v : tie.Need-enum-known-v
 enum-known-v c = search needs

@@ -1,0 +1,58 @@
+-- `capi::shares_allocate_book` meets its contract: a refused book leaves the results alone, any other has them told.
+use borrow.Author.Needs.{needs}
+use Rattle.capi.proofs.Books.{book-refused, firsts-told, book-told}
+use Rattle.capi.proofs.shares_allocate_book.Statement.{statement}
+use Rattle.capi.proofs.shares_allocate_book.Tie as tie
+
+for-book-requires : tie.Need-for-book-requires
+for-book-requires c κs = search needs
+
+slice-aggregate-allocate-book : tie.Need-slice-aggregate-allocate-book
+slice-aggregate-allocate-book c = search needs
+
+allocate-book-requires : tie.Need-allocate-book-requires
+allocate-book-requires c κs = search needs
+
+same-length : tie.Need-same-length
+same-length c = search needs
+
+same-length-2 : tie.Need-same-length-2
+same-length-2 c = search needs
+
+same-length-3 : tie.Need-same-length-3
+same-length-3 c = search needs
+
+returns : tie.Need-returns
+returns c = book-refused (c .before .before .before .before .before .before .before .before .before .allocate-book .ensures) (c .if1 .taken)
+
+tell-requires : tie.Need-tell-requires
+tell-requires c κs = firsts-told (c .before .before .before .before .before .before .before .before .before .before .before .before .before .before .allocate-book .ensures) (c .before .before .before .before .before .if1 .left)
+
+same-length-4 : tie.Need-same-length-4
+same-length-4 c = search needs
+
+same-length-5 : tie.Need-same-length-5
+same-length-5 c = search needs
+
+same-length-6 : tie.Need-same-length-6
+same-length-6 c = search needs
+
+returns-2 : tie.Need-returns-2
+returns-2 c = book-told (c .before .before .before .before .before .before .before .before .before .before .before .before .before .before .before .allocate-book .ensures) (c .before .before .before .before .before .before .if1 .left) (c .tell .ensures)
+
+pub shares-allocate-book-spec : {M : Type 1} → statement M
+shares-allocate-book-spec =
+    tie.close
+    (tie.spec
+    for-book-requires
+    slice-aggregate-allocate-book
+    allocate-book-requires
+    same-length
+    same-length-2
+    same-length-3
+    returns
+    tell-requires
+    same-length-4
+    same-length-5
+    same-length-6
+    returns-2)

@@ -1,0 +1,359 @@
+/* Every refusal number of every call, and that a refused call changes nothing
+ * that was lent to it. */
+#include <inttypes.h>
+#include <stdio.h>
+#include <string.h>
+
+#include "shares.h"
+
+#define CHORES 5
+#define PRICES (SHARES_PRICE_BYTES * CHORES)
+#define LONG_PRICES (SHARES_PRICE_BYTES * SHARES_BOOK_ENTRIES)
+
+/* 2 agents, 5 chores, weights 1 and 3. */
+static const uint8_t sheet[] = {2, CHORES, 0, 1, 0, 3, 'e', 'e', 'e', 'e', 'e', 'd', 'd', 'd', 'd', 'e'};
+static const uint8_t owners[CHORES] = {2, 2, 1, 1, 2};
+static const uint8_t prices[PRICES] = {0, 0, 0, 3, 0, 0, 0, 3, 0, 0, 0, 3, 0, 0, 0, 3, 0, 0, 0, 1};
+
+/* All that is ever lent, and what it held before the call. */
+struct lent {
+    uint8_t owners[SHARES_BOOK_ENTRIES];
+    uint8_t prices[LONG_PRICES];
+    uint8_t scratch[SHARES_SCRATCH];
+    uint8_t dominating[CHORES];
+    uint8_t refusals[SHARES_BOOK_SHEETS];
+    uint64_t moves[SHARES_BOOK_SHEETS];
+    uint8_t cuts[SHARES_BOOK_SHEETS];
+    uint32_t firsts[SHARES_BOOK_SHEETS];
+    uint64_t tally[2];
+    size_t start;
+    size_t length;
+};
+static struct lent lent, before;
+
+static int tests, passed;
+
+static void fill(void)
+{
+    uint8_t *bytes = (uint8_t *)&lent;
+    for (size_t i = 0; i < sizeof lent; i++)
+        bytes[i] = (uint8_t)(37 * i + 101);
+    memcpy(&before, &lent, sizeof lent);
+}
+
+static int is_as_wanted(const char *call, const char *what, uint32_t got, uint32_t wanted)
+{
+    if (got != wanted)
+        printf("%s, %s: %" PRIu32 ", not %" PRIu32 "\n", call, what, got, wanted);
+    return got == wanted;
+}
+
+static int is_kept(const char *call, const char *what)
+{
+    int kept = memcmp(&lent, &before, sizeof lent) == 0;
+    if (!kept)
+        printf("%s, %s: something lent has changed\n", call, what);
+    return kept;
+}
+
+static void expect(const char *call, const char *what, uint32_t got, uint32_t wanted)
+{
+    tests++;
+    passed += is_as_wanted(call, what, got, wanted);
+}
+
+/* The same, and nothing lent has changed. */
+static void expect_kept(const char *call, const char *what, uint32_t got, uint32_t wanted)
+{
+    tests++;
+    passed += is_as_wanted(call, what, got, wanted) & is_kept(call, what);
+}
+
+static uint8_t allocate(const uint8_t *s, size_t s_len, size_t owners_len, size_t prices_len, size_t scratch_len)
+{
+    fill();
+    return shares_allocate(s, s_len, lent.owners, owners_len, lent.prices, prices_len, lent.scratch, scratch_len,
+                           lent.moves, lent.cuts);
+}
+
+static uint32_t check_list(const uint8_t *s, size_t s_len, const uint8_t *o, size_t o_len, size_t dominating_len)
+{
+    fill();
+    return shares_check_list(s, s_len, o, o_len, lent.dominating, dominating_len);
+}
+
+static uint32_t check_prices(const uint8_t *s, size_t s_len, const uint8_t *o, size_t o_len, const uint8_t *p,
+                             size_t p_len)
+{
+    fill();
+    return shares_check_prices(s, s_len, o, o_len, p, p_len);
+}
+
+static uint8_t find_sheet(const uint8_t *book, size_t book_len, size_t number)
+{
+    fill();
+    return shares_find_sheet(book, book_len, number, &lent.start, &lent.length);
+}
+
+static uint8_t allocate_book(const uint8_t *book, size_t book_len, size_t owners_len, size_t prices_len,
+                             size_t scratch_len)
+{
+    fill();
+    return shares_allocate_book(book, book_len, lent.owners, owners_len, lent.prices, prices_len, lent.scratch,
+                                scratch_len, lent.refusals, lent.moves, lent.cuts, lent.firsts, lent.tally);
+}
+
+#define WHOLE (sizeof sheet)
+
+/* The sheet above, with a fault. */
+struct fault {
+    const char *what;
+    uint8_t number;
+    const char *bytes;
+    size_t length;
+};
+
+#define FAULT(what, number, bytes) {what, number, bytes, sizeof bytes - 1}
+
+static const struct fault faults[] = {
+    FAULT("no agents", SHARES_BAD_AGENTS, "\0\5\0\1\0\3" "eeeeedddde"),
+    FAULT("33 agents", SHARES_BAD_AGENTS, "\41\5\0\1\0\3" "eeeeedddde"),
+    FAULT("201 chores", SHARES_BAD_CHORES, "\2\311\0\1\0\3" "eeeeedddde"),
+    FAULT("easy weight 0", SHARES_BAD_WEIGHTS, "\2\5\0\0\0\3" "eeeeedddde"),
+    FAULT("equal weights", SHARES_BAD_WEIGHTS, "\2\5\0\1\0\1" "eeeeedddde"),
+    FAULT("difficult weight 1001", SHARES_BAD_WEIGHTS, "\2\5\0\1\3\351" "eeeeedddde"),
+    FAULT("a mark x", SHARES_BAD_MARK, "\2\5\0\1\0\3" "xeeeedddde"),
+    FAULT("a mark E", SHARES_BAD_MARK, "\2\5\0\1\0\3" "eeeeeddddE"),
+    FAULT("no bytes", SHARES_BAD_LENGTH, ""),
+    FAULT("5 bytes", SHARES_BAD_LENGTH, "\2\5\0\1\0"),
+    FAULT("a byte too few", SHARES_BAD_LENGTH, "\2\5\0\1\0\3" "eeeeedddd"),
+    FAULT("a byte too many", SHARES_BAD_LENGTH, "\2\5\0\1\0\3" "eeeeeddddee"),
+};
+#define FAULTS (sizeof faults / sizeof *faults)
+
+static void test_sheets(void)
+{
+    for (size_t i = 0; i < FAULTS; i++) {
+        const struct fault *fault = &faults[i];
+        const uint8_t *bytes = (const uint8_t *)fault->bytes;
+        expect_kept("allocate", fault->what, allocate(bytes, fault->length, CHORES, PRICES, SHARES_SCRATCH),
+                    fault->number);
+        expect_kept("check_list", fault->what, check_list(bytes, fault->length, owners, CHORES, CHORES), fault->number);
+        expect_kept("check_prices", fault->what, check_prices(bytes, fault->length, owners, CHORES, prices, PRICES),
+                    fault->number);
+    }
+}
+
+static void test_allocate(void)
+{
+    expect("allocate", "lists of m entries", allocate(sheet, WHOLE, CHORES, PRICES, SHARES_SCRATCH), SHARES_OK);
+    expect("allocate", "moves", (uint32_t)lent.moves[0], 3);
+    expect("allocate", "cuts", lent.cuts[0], 1);
+    expect("allocate", "owners", (uint32_t)memcmp(lent.owners, owners, CHORES), 0);
+    expect("allocate", "prices", (uint32_t)memcmp(lent.prices, prices, PRICES), 0);
+    expect_kept("allocate", "4 owners", allocate(sheet, WHOLE, CHORES - 1, PRICES, SHARES_SCRATCH), SHARES_SHORT_LIST);
+    expect_kept("allocate", "19 bytes of prices", allocate(sheet, WHOLE, CHORES, PRICES - 1, SHARES_SCRATCH),
+                SHARES_SHORT_LIST);
+    expect_kept("allocate", "scratch 1023", allocate(sheet, WHOLE, CHORES, PRICES, SHARES_SCRATCH - 1),
+                SHARES_SHORT_LIST);
+}
+
+static void test_check_list(void)
+{
+    uint8_t changed[CHORES + 1] = {2, 2, 1, 1, 2, 1};
+    uint32_t holds = check_list(sheet, WHOLE, owners, CHORES, CHORES);
+    expect("check_list", "refusal", shares_verdict_refusal(holds), SHARES_OK);
+    expect("check_list", "holds", shares_verdict_kind(holds), SHARES_HOLDS);
+    expect_kept("check_list", "4 owners", check_list(sheet, WHOLE, changed, CHORES - 1, CHORES),
+                SHARES_BAD_OWNER_COUNT);
+    expect_kept("check_list", "6 owners", check_list(sheet, WHOLE, changed, CHORES + 1, CHORES),
+                SHARES_BAD_OWNER_COUNT);
+    changed[4] = 0;
+    expect_kept("check_list", "owner 0", check_list(sheet, WHOLE, changed, CHORES, CHORES), SHARES_BAD_OWNER);
+    changed[4] = 3;
+    expect_kept("check_list", "owner 3", check_list(sheet, WHOLE, changed, CHORES, CHORES), SHARES_BAD_OWNER);
+    expect_kept("check_list", "4 entries lent", check_list(sheet, WHOLE, owners, CHORES, CHORES - 1),
+                SHARES_SHORT_LIST);
+    memset(changed, 1, CHORES);
+    uint32_t unfair = check_list(sheet, WHOLE, changed, CHORES, CHORES);
+    expect_kept("check_list", "unfair", shares_verdict_kind(unfair), SHARES_UNFAIR);
+    expect("check_list", "unfair, i", shares_verdict_i(unfair), 1);
+    expect("check_list", "unfair, j", shares_verdict_j(unfair), 2);
+
+    const uint8_t crossed[] = {2, 2, 0, 1, 0, 2, 'e', 'd', 'd', 'e'};
+    const uint8_t worst[] = {2, 1}, best[] = {1, 2};
+    uint32_t wasteful = check_list(crossed, sizeof crossed, worst, 2, CHORES);
+    expect("check_list", "wasteful", shares_verdict_kind(wasteful), SHARES_WASTEFUL);
+    expect("check_list", "the list shown", memcmp(lent.dominating, best, 2) == 0, 1);
+    expect("check_list", "beyond it", memcmp(lent.dominating + 2, before.dominating + 2, CHORES - 2) == 0, 1);
+}
+
+static void test_check_prices(void)
+{
+    uint8_t changed_owners[CHORES + 1] = {2, 2, 1, 1, 2, 1};
+    uint8_t changed[PRICES + SHARES_PRICE_BYTES] = {0};
+    uint32_t accepted = check_prices(sheet, WHOLE, owners, CHORES, prices, PRICES);
+    expect("check_prices", "refusal", shares_verdict_refusal(accepted), SHARES_OK);
+    expect("check_prices", "accepted", shares_verdict_kind(accepted), SHARES_ACCEPTED);
+    expect_kept("check_prices", "4 owners", check_prices(sheet, WHOLE, changed_owners, CHORES - 1, prices, PRICES),
+                SHARES_BAD_OWNER_COUNT);
+    expect_kept("check_prices", "6 owners", check_prices(sheet, WHOLE, changed_owners, CHORES + 1, prices, PRICES),
+                SHARES_BAD_OWNER_COUNT);
+    changed_owners[0] = 0;
+    expect_kept("check_prices", "owner 0", check_prices(sheet, WHOLE, changed_owners, CHORES, prices, PRICES),
+                SHARES_BAD_OWNER);
+    changed_owners[0] = 3;
+    expect_kept("check_prices", "owner 3", check_prices(sheet, WHOLE, changed_owners, CHORES, prices, PRICES),
+                SHARES_BAD_OWNER);
+
+    memcpy(changed, prices, PRICES);
+    changed[PRICES + 3] = 3;
+    expect_kept("check_prices", "4 prices", check_prices(sheet, WHOLE, owners, CHORES, changed, PRICES - 4),
+                SHARES_BAD_PRICE);
+    expect_kept("check_prices", "6 prices", check_prices(sheet, WHOLE, owners, CHORES, changed, PRICES + 4),
+                SHARES_BAD_PRICE);
+    expect_kept("check_prices", "19 bytes", check_prices(sheet, WHOLE, owners, CHORES, changed, PRICES - 1),
+                SHARES_BAD_PRICE);
+    expect_kept("check_prices", "21 bytes", check_prices(sheet, WHOLE, owners, CHORES, changed, PRICES + 1),
+                SHARES_BAD_PRICE);
+    changed[3] = 0;
+    expect_kept("check_prices", "price 0", check_prices(sheet, WHOLE, owners, CHORES, changed, PRICES),
+                SHARES_BAD_PRICE);
+    const uint8_t above[SHARES_PRICE_BYTES] = {0x00, 0x0f, 0x42, 0x41};
+    memcpy(changed, above, sizeof above);
+    expect_kept("check_prices", "price 1000001", check_prices(sheet, WHOLE, owners, CHORES, changed, PRICES),
+                SHARES_BAD_PRICE);
+    memset(changed, 0, 3);
+    changed[3] = 3;
+    changed[PRICES - 1] = 3;
+    uint32_t off = check_prices(sheet, WHOLE, owners, CHORES, changed, PRICES);
+    expect_kept("check_prices", "off price", shares_verdict_kind(off), SHARES_OFF_PRICE);
+    expect("check_prices", "off price, the chore", shares_verdict_chore(off), 1);
+}
+
+/* A byte for each place, so that any of them can be spoilt. */
+static uint8_t book[SHARES_MAX_BOOK + 1];
+
+static void two_bytes(size_t at, size_t number)
+{
+    book[at] = (uint8_t)(number >> 8);
+    book[at + 1] = (uint8_t)number;
+}
+
+/* Two sheets; hands back the length. */
+static size_t make_book(void)
+{
+    book[0] = 2;
+    two_bytes(1, 9);
+    two_bytes(3, WHOLE);
+    two_bytes(5, 9 + WHOLE);
+    two_bytes(7, WHOLE);
+    memcpy(book + 9, sheet, WHOLE);
+    memcpy(book + 9 + WHOLE, sheet, WHOLE);
+    return 9 + 2 * WHOLE;
+}
+
+static void no_book(const char *what, size_t length)
+{
+    expect_kept("find_sheet", what, find_sheet(book, length, 1), SHARES_BAD_BOOK);
+    expect_kept("allocate_book", what, allocate_book(book, length, SHARES_BOOK_ENTRIES, LONG_PRICES, SHARES_SCRATCH),
+                SHARES_BAD_BOOK);
+    /* Lists are looked at after the book. */
+    expect_kept("allocate_book", what, allocate_book(book, length, 0, 0, 0), SHARES_BAD_BOOK);
+}
+
+static void test_no_books(void)
+{
+    size_t length = make_book();
+    no_book("no bytes", 0);
+    no_book("only a count", 1);
+    no_book("contents cut short", 8);
+    no_book("a byte too few", length - 1);
+    no_book("a byte too many", length + 1);
+    book[0] = 0;
+    no_book("no sheets", length);
+    book[0] = SHARES_BOOK_SHEETS + 1;
+    no_book("17 sheets", length);
+    make_book();
+    two_bytes(1, 10);
+    no_book("a gap before the first sheet", length);
+    make_book();
+    two_bytes(5, 8 + WHOLE);
+    two_bytes(7, WHOLE + 1);
+    no_book("a sheet that starts inside another", length);
+    make_book();
+    two_bytes(7, WHOLE + 1);
+    no_book("a sheet that ends after the book", length);
+    memset(book, 0, sizeof book);
+    book[0] = 1;
+    two_bytes(1, 5);
+    two_bytes(3, SHARES_MAX_BOOK - 4);
+    no_book("65,536 bytes", SHARES_MAX_BOOK + 1);
+}
+
+static void test_find_sheet(void)
+{
+    size_t length = make_book();
+    expect("find_sheet", "sheet 2", find_sheet(book, length, 2), SHARES_OK);
+    expect("find_sheet", "its start", (uint32_t)lent.start, 9 + WHOLE);
+    expect("find_sheet", "its length", (uint32_t)lent.length, WHOLE);
+    expect_kept("find_sheet", "sheet 0", find_sheet(book, length, 0), SHARES_BAD_BOOK);
+    expect_kept("find_sheet", "sheet 3", find_sheet(book, length, 3), SHARES_BAD_BOOK);
+    expect_kept("find_sheet", "sheet 257", find_sheet(book, length, 257), SHARES_BAD_BOOK);
+}
+
+static void test_allocate_book(void)
+{
+    size_t length = make_book();
+    expect_kept("allocate_book", "3,199 owners",
+                allocate_book(book, length, SHARES_BOOK_ENTRIES - 1, LONG_PRICES, SHARES_SCRATCH), SHARES_SHORT_LIST);
+    expect_kept("allocate_book", "12,799 bytes of prices",
+                allocate_book(book, length, SHARES_BOOK_ENTRIES, LONG_PRICES - 1, SHARES_SCRATCH), SHARES_SHORT_LIST);
+    expect_kept("allocate_book", "scratch 1023",
+                allocate_book(book, length, SHARES_BOOK_ENTRIES, LONG_PRICES, SHARES_SCRATCH - 1), SHARES_SHORT_LIST);
+}
+
+/* A book of a faulty sheet and a good one: only the second takes entries. */
+static void test_sheets_of_a_book(void)
+{
+    for (size_t i = 0; i < FAULTS; i++) {
+        const struct fault *fault = &faults[i];
+        make_book();
+        two_bytes(3, fault->length);
+        two_bytes(5, 9 + fault->length);
+        memcpy(book + 9, fault->bytes, fault->length);
+        memcpy(book + 9 + fault->length, sheet, WHOLE);
+        expect("allocate_book", fault->what,
+               allocate_book(book, 9 + fault->length + WHOLE, SHARES_BOOK_ENTRIES, LONG_PRICES, SHARES_SCRATCH),
+               SHARES_OK);
+        expect("allocate_book, sheet 1", fault->what, lent.refusals[0], fault->number);
+        expect("allocate_book, sheet 2", fault->what, lent.refusals[1], SHARES_OK);
+        expect("allocate_book, sheet 3", fault->what, lent.refusals[2], SHARES_BAD_BOOK);
+        expect("allocate_book, moves", fault->what, lent.moves[0] == 0 && lent.moves[1] == 3, 1);
+        expect("allocate_book, cuts", fault->what, lent.cuts[0] == 0 && lent.cuts[1] == 1, 1);
+        expect("allocate_book, first", fault->what, lent.firsts[1], 0);
+        expect("allocate_book, tally", fault->what, lent.tally[0] == 3 && lent.tally[1] == 1, 1);
+        expect("allocate_book, owners", fault->what,
+               memcmp(lent.owners, owners, CHORES) == 0 &&
+                   memcmp(lent.owners + CHORES, before.owners + CHORES, SHARES_BOOK_ENTRIES - CHORES) == 0,
+               1);
+        expect("allocate_book, prices", fault->what,
+               memcmp(lent.prices, prices, PRICES) == 0 &&
+                   memcmp(lent.prices + PRICES, before.prices + PRICES, LONG_PRICES - PRICES) == 0,
+               1);
+    }
+}
+
+int main(void)
+{
+    test_sheets();
+    test_allocate();
+    test_check_list();
+    test_check_prices();
+    test_no_books();
+    test_find_sheet();
+    test_allocate_book();
+    test_sheets_of_a_book();
+    printf("the C interface: %d of %d tests passed\n", passed, tests);
+    return passed == tests ? 0 : 1;
+}
