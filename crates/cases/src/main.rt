@@ -1,0 +1,239 @@
+// The cases of document 01 that have no star: each limit, at it and one past it, and one case for every other refusal. One line each.
+
+ghost use Prim.Native.Nat.{_+_, _*_, _≤_, _<_};
+ghost use mathlib.Core.Path.{_≡_};
+ghost use lib.ListN.{length};
+ghost use Rattle.model.specs.Limits.{maxAgents, maxChores, scratchSize};
+use libc::STDOUT_FILENO;
+use model::ListVerdict;
+use model::PriceVerdict;
+use model::ShareOut;
+
+// The marks start here.
+const HEADER: usize = 6;
+
+// The longest sheet tried has two rows, of one chore past the limit.
+const LONGEST: usize = HEADER + 2 * (model::MAX_CHORES + 1);
+
+// Sheet C's two rows.
+const ROWS: [u8; 10] = *b"eeeeedddde";
+
+fn print(text: &[u8]) {
+    io::write_all(STDOUT_FILENO, text);
+}
+
+fn print_case(name: &[u8], value: u64) {
+    print(name);
+    io::print_decimal(STDOUT_FILENO, value);
+}
+
+fn print_refused(number: u8) {
+    print_case(b" refused ", number as u64);
+    print(b"\n");
+}
+
+// No case of a check or a lookup comes here.
+fn print_taken() {
+    print(b" not refused\n");
+}
+
+fn print_share_out(answer: ShareOut) {
+    match answer {
+        ShareOut::Refused(number) => print_refused(number),
+        ShareOut::Shared { moves, cuts } => {
+            print_case(b" moves ", moves);
+            print_case(b" cuts ", cuts as u64);
+            print(b"\n");
+        }
+    }
+}
+
+fn print_list_verdict(answer: ListVerdict) {
+    match answer {
+        ListVerdict::Refused(number) => print_refused(number),
+        _ => print_taken(),
+    }
+}
+
+fn print_price_verdict(answer: PriceVerdict) {
+    match answer {
+        PriceVerdict::Refused(number) => print_refused(number),
+        _ => print_taken(),
+    }
+}
+
+fn print_lookup(refusal: u8) {
+    if refusal == 0 {
+        print_taken();
+    } else {
+        print_refused(refusal);
+    }
+}
+
+// The weights are 1 and b, high byte first.
+fn write_header(sheet: &mut [u8], n: u8, m: u8, b: u16)
+    requires { ⌜ 6 ≤ length (now sheet) ⌝ }
+{
+    sheet[0] = n;
+    sheet[1] = m;
+    sheet[2] = 0;
+    sheet[3] = 1;
+    sheet[4] = (b / 256) as u8;
+    sheet[5] = (b % 256) as u8;
+}
+
+// The marks fill the rows, over and over.
+fn write_rows(sheet: &mut [u8], marks: &[u8])
+    requires { ⌜ 6 ≤ length (now sheet) ⌝ }
+    requires { ⌜ 0 < length (now marks) ⌝ }
+{
+    let mut k = HEADER;
+    while k < sheet.len() {
+        sheet[k] = marks[(k - HEADER) % marks.len()];
+        k += 1;
+    }
+}
+
+fn write_sheet(sheet: &mut [u8], n: u8, m: u8, b: u16, marks: &[u8])
+    requires { ⌜ 6 ≤ length (now sheet) ⌝ }
+    requires { ⌜ 0 < length (now marks) ⌝ }
+{
+    write_header(sheet, n, m, b);
+    write_rows(sheet, marks);
+}
+
+// The lists have room for a chore past the limit, so that they are not what is turned down.
+fn try_share_out(sheet: &[u8], scratch: usize)
+    requires { ⌜ scratch ≤ scratchSize ⌝ }
+{
+    let mut owners = [0u8; model::MAX_CHORES + 1];
+    let mut prices = [0u32; model::MAX_CHORES + 1];
+    let mut lent = [0u8; model::SCRATCH_SIZE];
+    print_share_out(allocation::allocate(sheet, &mut owners, &mut prices, &mut lent[0..scratch]));
+}
+
+fn try_sheet(n: u8, m: u8, b: u16, marks: &[u8], scratch: usize)
+    requires { ⌜ 6 + n * m ≤ 6 + 2 * (maxChores + 1) ⌝ }
+    requires { ⌜ 0 < length (now marks) ⌝ }
+    requires { ⌜ scratch ≤ scratchSize ⌝ }
+{
+    let mut space = [0u8; LONGEST];
+    let size = HEADER + (n as usize) * (m as usize);
+    let sheet = &mut space[0..size];
+    write_sheet(sheet, n, m, b, marks);
+    try_share_out(sheet, scratch);
+}
+
+fn try_agents(n: u8)
+    requires { ⌜ n ≤ maxAgents + 1 ⌝ }
+{
+    print_case(b"n ", n as u64);
+    try_sheet(n, 3, 2, b"eed", model::SCRATCH_SIZE);
+}
+
+fn try_chores(m: u8)
+    requires { ⌜ m ≤ maxChores + 1 ⌝ }
+{
+    print_case(b"m ", m as u64);
+    try_sheet(2, m, 2, b"e", model::SCRATCH_SIZE);
+}
+
+fn try_weight(b: u16) {
+    print_case(b"b ", b as u64);
+    try_sheet(2, 5, b, &ROWS, model::SCRATCH_SIZE);
+}
+
+fn try_scratch(scratch: usize)
+    requires { ⌜ scratch ≤ scratchSize ⌝ }
+{
+    print_case(b"scratch ", scratch as u64);
+    try_sheet(2, 5, 3, &ROWS, scratch);
+}
+
+// Each limit, at it and one past it.
+fn try_limits() {
+    let agents = model::MAX_AGENTS as u8;
+    let chores = model::MAX_CHORES as u8;
+    let weight = model::MAX_WEIGHT as u16;
+    try_agents(agents);
+    try_agents(agents + 1);
+    try_chores(chores);
+    try_chores(chores + 1);
+    try_weight(weight);
+    try_weight(weight + 1);
+    try_scratch(model::SCRATCH_SIZE);
+    try_scratch(model::SCRATCH_SIZE - 1);
+}
+
+// The faults below are made in sheet C.
+fn sheet_c() -> [u8; 16]
+    ensures { λ r. ⌜ length r ≡ 16 ⌝ }
+{
+    let mut sheet = [0u8; 16];
+    write_sheet(&mut sheet, 2, 5, 3, &ROWS);
+    sheet
+}
+
+fn try_mark(mark: u8) {
+    let mut sheet = sheet_c();
+    sheet[15] = mark;
+    print(b"mark ");
+    print(&[mark]);
+    try_share_out(&sheet, model::SCRATCH_SIZE);
+}
+
+fn try_length(size: usize)
+    requires { ⌜ size ≤ 16 ⌝ }
+{
+    let sheet = sheet_c();
+    print_case(b"length ", size as u64);
+    try_share_out(&sheet[0..size], model::SCRATCH_SIZE);
+}
+
+fn try_list(owners: &[u8]) {
+    let sheet = sheet_c();
+    let mut dominating = [0u8; model::MAX_CHORES];
+    print_list_verdict(listcheck::check_list(&sheet, owners, &mut dominating));
+}
+
+fn try_owners(count: usize)
+    requires { ⌜ count ≤ 5 ⌝ }
+{
+    let owners = [2u8, 2, 1, 1, 2];
+    print_case(b"owners ", count as u64);
+    try_list(&owners[0..count]);
+}
+
+fn try_owner(owner: u8) {
+    print_case(b"owner ", owner as u64);
+    try_list(&[2, 2, 1, 1, owner]);
+}
+
+fn try_price(price: u32) {
+    let sheet = sheet_c();
+    let owners = [2u8, 2, 1, 1, 2];
+    let prices = [3u32, 3, 3, 3, price];
+    print_case(b"price ", price as u64);
+    print_price_verdict(pricecheck::check_prices(&sheet, &owners, &prices));
+}
+
+// A book of C alone: one entry, of a body from byte 5 on and of 16 bytes.
+fn try_lookup(number: usize) {
+    let mut book = [0u8; 21];
+    book[0] = 1;
+    book[2] = 5;
+    book[4] = 16;
+    write_sheet(&mut book[5..21], 2, 5, 3, &ROWS);
+    print_case(b"sheet ", number as u64);
+    print_lookup(contents::lookup_refusal(&book, number));
+}
+
+fn main() {
+    try_limits();
+    try_mark(b'x');
+    try_length(15);
+    try_owners(4);
+    try_owner(3);
+    try_price(0);
+    try_lookup(2);
+}
