@@ -1,28 +1,86 @@
-//! The proved library by its C interface, in the terms of the second program.
+//! The proved library by its C interface, as safe calls on slices. Answers
+//! that C gets through pointers stay lent here, so that tests see what a
+//! refusal does to them.
 
+pub mod books;
+mod c;
+pub mod lent;
 pub mod random;
+pub mod shapes;
 
 use reference::{ListVerdict, PriceVerdict};
 
-/// A slice passes as a pointer and a length, in the parameters' order.
-mod c {
-    extern "C" {
-        pub fn shares_check_list(
-            sheet: *const u8,
-            sheet_len: usize,
-            owners: *const u8,
-            owners_len: usize,
-            dominating: *mut u8,
-            dominating_len: usize,
-        ) -> u32;
-        pub fn shares_check_prices(
-            sheet: *const u8,
-            sheet_len: usize,
-            owners: *const u8,
-            owners_len: usize,
-            prices: *const u32,
-            prices_len: usize,
-        ) -> u32;
+/// Entries of each list that tells what became of a book's sheets.
+pub const BOOK_SHEETS: usize = 16;
+
+/// Where the share-out of a book tells of its sheets.
+#[derive(Debug)]
+pub struct BookAnswers<'a> {
+    pub refusals: &'a mut [u8; BOOK_SHEETS],
+    pub moves: &'a mut [u64; BOOK_SHEETS],
+    pub cuts: &'a mut [u8; BOOK_SHEETS],
+    pub firsts: &'a mut [u32; BOOK_SHEETS],
+    /// The moves and the cuts of all accepted sheets.
+    pub tally: &'a mut [u64; 2],
+}
+
+/// 0 or the refusal number. Prices are bytes, four to a price.
+pub fn allocate(
+    sheet: &[u8],
+    owners: &mut [u8],
+    prices: &mut [u8],
+    scratch: &mut [u8],
+    moves: &mut u64,
+    cuts: &mut u8,
+) -> u8 {
+    // SAFETY: each pointer comes with its slice's length or points to one number, and the call keeps none of them.
+    unsafe {
+        c::shares_allocate(
+            sheet.as_ptr(),
+            sheet.len(),
+            owners.as_mut_ptr(),
+            owners.len(),
+            prices.as_mut_ptr(),
+            prices.len(),
+            scratch.as_mut_ptr(),
+            scratch.len(),
+            moves,
+            cuts,
+        )
+    }
+}
+
+/// 0 or the refusal number; the stretch of the book is told by start and length.
+pub fn find_sheet(book: &[u8], number: usize, start: &mut usize, length: &mut usize) -> u8 {
+    // SAFETY: as in `allocate`.
+    unsafe { c::shares_find_sheet(book.as_ptr(), book.len(), number, start, length) }
+}
+
+/// 0 or the book's refusal number.
+pub fn allocate_book(
+    book: &[u8],
+    owners: &mut [u8],
+    prices: &mut [u8],
+    scratch: &mut [u8],
+    answers: BookAnswers,
+) -> u8 {
+    // SAFETY: as in `allocate`; each list of answers has the entries that the call writes.
+    unsafe {
+        c::shares_allocate_book(
+            book.as_ptr(),
+            book.len(),
+            owners.as_mut_ptr(),
+            owners.len(),
+            prices.as_mut_ptr(),
+            prices.len(),
+            scratch.as_mut_ptr(),
+            scratch.len(),
+            answers.refusals.as_mut_ptr(),
+            answers.moves.as_mut_ptr(),
+            answers.cuts.as_mut_ptr(),
+            answers.firsts.as_mut_ptr(),
+            answers.tally.as_mut_ptr(),
+        )
     }
 }
 
@@ -33,7 +91,7 @@ fn parts(number: u32) -> (u8, u8, usize, usize) {
 }
 
 pub fn check_list(sheet: &[u8], owners: &[u8], dominating: &mut [u8]) -> ListVerdict {
-    // SAFETY: each pointer comes with its slice's length, and the call keeps none of them.
+    // SAFETY: as in `allocate`.
     let number = unsafe {
         c::shares_check_list(
             sheet.as_ptr(),
@@ -53,8 +111,9 @@ pub fn check_list(sheet: &[u8], owners: &[u8], dominating: &mut [u8]) -> ListVer
     }
 }
 
-pub fn check_prices(sheet: &[u8], owners: &[u8], prices: &[u32]) -> PriceVerdict {
-    // SAFETY: as in `check_list`.
+/// Prices are bytes, four to a price.
+pub fn check_prices(sheet: &[u8], owners: &[u8], prices: &[u8]) -> PriceVerdict {
+    // SAFETY: as in `allocate`.
     let number = unsafe {
         c::shares_check_prices(
             sheet.as_ptr(),

@@ -1,7 +1,8 @@
 //! The two checks against the second program: every answer, and every list that is shown.
 
-use compare::random::{self, Random};
-use reference::{check_list, check_prices, dominates, is_small_enough, ListVerdict};
+use compare::random::{self, damaged, Random};
+use compare::shapes;
+use reference::{check_list, dominates, is_small_enough, price_bytes, ListVerdict};
 
 const SMALL: usize = 20_000;
 const LARGE: usize = 2_000;
@@ -20,7 +21,10 @@ fn judged(sheet: &[u8], owners: &[u8], lent: usize, random: &mut Random) -> List
         );
         assert_eq!(after[chores..], before[chores..], "written beyond m");
     } else {
-        assert_eq!(after, before, "written without `wasteful`: {sheet:?} {owners:?}");
+        assert_eq!(
+            after, before,
+            "written without `wasteful`: {sheet:?} {owners:?}"
+        );
     }
     verdict
 }
@@ -49,28 +53,14 @@ fn near_fair(sheet: &[u8], random: &mut Random) -> Vec<u8> {
     owners
 }
 
-/// Any bytes in place of some, and sometimes another length.
-fn damaged(mut bytes: Vec<u8>, random: &mut Random) -> Vec<u8> {
-    for _ in 0..1 + random.below(3) {
-        if !bytes.is_empty() && random.chance(70) {
-            let at = random.below(bytes.len().min(10));
-            bytes[at] = random.byte();
-        } else if random.chance(50) {
-            bytes.pop();
-        } else {
-            bytes.push(random.byte());
-        }
-    }
-    bytes
-}
-
 #[test]
 fn small_lists_get_the_same_verdict() {
     let mut random = Random::new(1);
     let mut seen = [0usize; 3];
     for _ in 0..SMALL {
         let (agents, chores) = (1 + random.below(4), random.below(7));
-        let sheet = random::sheet(&mut random, agents, chores);
+        let shape = shapes::any_shape(&mut random);
+        let sheet = shapes::sheet(&mut random, shape, agents, chores);
         assert!(is_small_enough(&sheet));
         let owners = if random.chance(50) {
             near_fair(&sheet, &mut random)
@@ -79,7 +69,11 @@ fn small_lists_get_the_same_verdict() {
         };
         let lent = chores + random.below(3);
         let verdict = judged(&sheet, &owners, lent, &mut random);
-        assert_eq!(verdict, expected(&sheet, &owners, lent), "{sheet:?} {owners:?}");
+        assert_eq!(
+            verdict,
+            expected(&sheet, &owners, lent),
+            "{sheet:?} {owners:?}"
+        );
         match verdict {
             ListVerdict::Holds => seen[0] += 1,
             ListVerdict::Unfair(..) => seen[1] += 1,
@@ -95,7 +89,7 @@ fn large_lists_get_the_same_pair_or_a_dominating_list() {
     let mut random = Random::new(2);
     let (mut holds, mut wasteful) = (0, 0);
     for _ in 0..LARGE {
-        let sheet = random::any_sheet(&mut random);
+        let sheet = shapes::any_sheet(&mut random);
         let owners = near_fair(&sheet, &mut random);
         let lent = owners.len();
         let verdict = judged(&sheet, &owners, lent, &mut random);
@@ -109,7 +103,7 @@ fn large_lists_get_the_same_pair_or_a_dominating_list() {
         holds += usize::from(verdict == ListVerdict::Holds);
         wasteful += usize::from(verdict == ListVerdict::Wasteful);
     }
-    assert!(holds > 100 && wasteful > 100, "{holds} {wasteful}");
+    assert!(holds > 100 && wasteful > 50, "{holds} {wasteful}");
 }
 
 #[test]
@@ -117,7 +111,8 @@ fn damaged_sheets_and_lists_get_the_same_number() {
     let mut random = Random::new(3);
     for _ in 0..SMALL {
         let (agents, chores) = (1 + random.below(4), random.below(6));
-        let mut sheet = random::sheet(&mut random, agents, chores);
+        let shape = shapes::any_shape(&mut random);
+        let mut sheet = shapes::sheet(&mut random, shape, agents, chores);
         let mut owners = random::owners(&mut random, agents, chores);
         if random.chance(60) {
             sheet = damaged(sheet, &mut random);
@@ -131,10 +126,17 @@ fn damaged_sheets_and_lists_get_the_same_number() {
             ListVerdict::Undecided => {}
             other => assert_eq!(verdict, other, "{sheet:?} {owners:?} {lent}"),
         }
-        let prices: Vec<u32> = (0..random.below(chores + 2)).map(|_| price(&mut random)).collect();
+        // Of m entries mostly; now and then with bytes that make no entry.
+        let entries = chores + [0, 0, 0, 1, 2][random.below(5)];
+        let mut prices: Vec<u8> = (0..entries)
+            .flat_map(|_| price(&mut random).to_be_bytes())
+            .collect();
+        if random.chance(20) {
+            prices.truncate(prices.len().saturating_sub(random.below(6)));
+        }
         assert_eq!(
             compare::check_prices(&sheet, &owners, &prices),
-            check_prices(&sheet, &owners, &prices),
+            price_bytes::check(&sheet, &owners, &prices),
             "{sheet:?} {owners:?} {prices:?}"
         );
     }
@@ -156,7 +158,7 @@ fn price_lists_get_the_same_verdict() {
     let mut random = Random::new(4);
     let mut accepted = 0;
     for _ in 0..SMALL {
-        let sheet = random::any_sheet(&mut random);
+        let sheet = shapes::any_sheet(&mut random);
         let (agents, chores) = (usize::from(sheet[0]), usize::from(sheet[1]));
         let mut owners = vec![0; chores];
         let mut prices = vec![0; chores];
@@ -167,8 +169,13 @@ fn price_lists_get_the_same_verdict() {
         if chores > 0 && random.chance(40) {
             prices[random.below(chores)] = 1 + random.below(1_000_000) as u32;
         }
+        let prices: Vec<u8> = prices.into_iter().flat_map(u32::to_be_bytes).collect();
         let verdict = compare::check_prices(&sheet, &owners, &prices);
-        assert_eq!(verdict, check_prices(&sheet, &owners, &prices), "{sheet:?} {owners:?} {prices:?}");
+        assert_eq!(
+            verdict,
+            price_bytes::check(&sheet, &owners, &prices),
+            "{sheet:?} {owners:?} {prices:?}"
+        );
         accepted += usize::from(verdict == reference::PriceVerdict::Accepted);
     }
     assert!(accepted > SMALL / 20 && accepted < SMALL, "{accepted}");

@@ -2,7 +2,7 @@
 
 use crate::limits::{BOOK_ENTRIES, MAX_BOOK_BYTES, MAX_SHEETS, MIN_SCRATCH};
 use crate::refusal;
-use crate::share_out::{allocate, ShareOut};
+use crate::share_out::{allocate_by, work, ShareOut, Worked};
 use crate::sheet::Sheet;
 
 pub const ENTRY_BYTES: usize = 4;
@@ -85,6 +85,17 @@ pub fn allocate_book(
     prices: &mut [u32],
     scratch: &mut [u8],
 ) -> BookShareOut {
+    allocate_book_by(work, book, owners, prices, scratch)
+}
+
+/// The share-out with either way to work a sheet.
+pub fn allocate_book_by(
+    work: fn(&Sheet) -> Worked,
+    book: &[u8],
+    owners: &mut [u8],
+    prices: &mut [u32],
+    scratch: &mut [u8],
+) -> BookShareOut {
     let bodies = match sheets_of(book) {
         Ok(bodies) => bodies,
         Err(number) => return BookShareOut::Refused(number),
@@ -97,7 +108,8 @@ pub fn allocate_book(
     let mut total = Tally::default();
     let mut first = 0;
     for body in bodies {
-        match allocate(body, &mut owners[first..], &mut prices[first..], scratch) {
+        let (owners, prices) = (&mut owners[first..], &mut prices[first..]);
+        match allocate_by(work, body, owners, prices, scratch) {
             ShareOut::Refused(number) => sheets.push(SheetShareOut::Refused(number)),
             ShareOut::Shared { moves, cuts } => {
                 sheets.push(SheetShareOut::Shared { moves, cuts, first });

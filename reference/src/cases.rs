@@ -1,59 +1,99 @@
-//! The boundary cases among the sheets to try.
+//! The limits among the sheets to try, and one case for every other refusal.
 
+use crate::book::lookup;
+use crate::checks::{check_list, check_prices, ListVerdict, PriceVerdict};
 use crate::compose;
 use crate::limits::{MAX_AGENTS, MAX_CHORES, MAX_WEIGHT, MIN_SCRATCH};
 use crate::share_out::{allocate, ShareOut};
 
-/// A sheet to share out with scratch of a given length.
-#[derive(Debug, Clone)]
-pub struct Case {
-    pub name: String,
-    pub sheet: Vec<u8>,
-    pub scratch: usize,
+/// One line per case: its name, then the answer.
+pub fn print() -> String {
+    let lines = [limits(), refusals()].concat();
+    lines.iter().map(|line| format!("{line}\n")).collect()
+}
+
+/// Sheet C of the scope document, and its share-out.
+const ROWS: [&str; 2] = ["eeeee", "dddde"];
+const OWNERS: [u8; 5] = [2, 2, 1, 1, 2];
+const PRICES: [u32; 5] = [3, 3, 3, 3, 1];
+
+fn sheet_c() -> Vec<u8> {
+    compose::sheet(1, 3, &ROWS)
 }
 
 /// Each limit, at it and one past it.
-pub fn cases() -> Vec<Case> {
-    let mut all = Vec::new();
+fn limits() -> Vec<String> {
+    let mut lines = Vec::new();
     for n in [MAX_AGENTS, MAX_AGENTS + 1] {
         let sheet = compose::sheet(1, 2, &vec!["eed"; n]);
-        all.push(case(format!("n {n}"), sheet, MIN_SCRATCH));
+        lines.push(format!("n {n} {}", shared(&sheet, MIN_SCRATCH)));
     }
     for m in [MAX_CHORES, MAX_CHORES + 1] {
         let sheet = compose::sheet(1, 2, &vec!["e".repeat(m); 2]);
-        all.push(case(format!("m {m}"), sheet, MIN_SCRATCH));
+        lines.push(format!("m {m} {}", shared(&sheet, MIN_SCRATCH)));
     }
     for b in [MAX_WEIGHT as u16, MAX_WEIGHT as u16 + 1] {
-        let sheet = compose::sheet(1, b, &["eeeee", "dddde"]);
-        all.push(case(format!("b {b}"), sheet, MIN_SCRATCH));
+        let sheet = compose::sheet(1, b, &ROWS);
+        lines.push(format!("b {b} {}", shared(&sheet, MIN_SCRATCH)));
     }
     for scratch in [MIN_SCRATCH, MIN_SCRATCH - 1] {
-        let sheet = compose::sheet(1, 3, &["eeeee", "dddde"]);
-        all.push(case(format!("scratch {scratch}"), sheet, scratch));
+        lines.push(format!("scratch {scratch} {}", shared(&sheet_c(), scratch)));
     }
-    all
+    lines
 }
 
-fn case(name: String, sheet: Vec<u8>, scratch: usize) -> Case {
-    Case {
-        name,
-        sheet,
-        scratch,
+/// The numbers that no limit above gives, each by a fault at the end of C, of
+/// its list, of its prices or of a book that holds it alone.
+fn refusals() -> Vec<String> {
+    let sheet = sheet_c();
+    let (last, most) = (sheet.len() - 1, OWNERS.len() - 1);
+    let mut marked = sheet.clone();
+    marked[last] = b'x';
+    let mut owners = OWNERS;
+    owners[most] = 3;
+    let mut prices = PRICES;
+    prices[most] = 0;
+    let book = compose::book(&[&sheet]);
+    vec![
+        format!("mark x {}", shared(&marked, MIN_SCRATCH)),
+        format!("length {last} {}", shared(&sheet[..last], MIN_SCRATCH)),
+        format!("owners {most} {}", listed(&sheet, &OWNERS[..most])),
+        format!("owner 3 {}", listed(&sheet, &owners)),
+        format!("price 0 {}", priced(&sheet, &prices)),
+        format!("sheet 2 {}", found(&book, 2)),
+    ]
+}
+
+fn refused(number: u8) -> String {
+    format!("refused {number}")
+}
+
+fn shared(sheet: &[u8], scratch: usize) -> String {
+    let mut owners = [0; MAX_CHORES + 1];
+    let mut prices = [0; MAX_CHORES + 1];
+    match allocate(sheet, &mut owners, &mut prices, &mut vec![0; scratch]) {
+        ShareOut::Refused(number) => refused(number),
+        ShareOut::Shared { moves, cuts } => format!("moves {moves} cuts {cuts}"),
     }
 }
 
-/// One line per case: its name, then its refusal or its moves and cuts.
-pub fn print() -> String {
-    let mut print = String::new();
-    for case in cases() {
-        let mut owners = vec![0; MAX_CHORES + 1];
-        let mut prices = vec![0; MAX_CHORES + 1];
-        let mut scratch = vec![0; case.scratch];
-        let answer = match allocate(&case.sheet, &mut owners, &mut prices, &mut scratch) {
-            ShareOut::Refused(number) => format!("refused {number}"),
-            ShareOut::Shared { moves, cuts } => format!("moves {moves} cuts {cuts}"),
-        };
-        print += &format!("{} {answer}\n", case.name);
+fn listed(sheet: &[u8], owners: &[u8]) -> String {
+    match check_list(sheet, owners, &mut [0; MAX_CHORES]) {
+        ListVerdict::Refused(number) => refused(number),
+        verdict => format!("{verdict:?}"),
     }
-    print
+}
+
+fn priced(sheet: &[u8], prices: &[u32]) -> String {
+    match check_prices(sheet, &OWNERS, prices) {
+        PriceVerdict::Refused(number) => refused(number),
+        verdict => format!("{verdict:?}"),
+    }
+}
+
+fn found(book: &[u8], number: usize) -> String {
+    match lookup(book, number) {
+        Err(number) => refused(number),
+        Ok(sheet) => format!("of {} bytes", sheet.len()),
+    }
 }

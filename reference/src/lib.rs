@@ -15,6 +15,8 @@ pub mod costs;
 pub mod fairness;
 pub mod limits;
 pub mod output;
+pub mod plain;
+pub mod price_bytes;
 pub mod pricing;
 pub mod refusal;
 pub mod search;

@@ -12,9 +12,42 @@ pub enum ShareOut {
     Shared { moves: u64, cuts: u8 },
 }
 
+/// The result for an accepted sheet, owners counted from 1.
+#[derive(Debug, Clone, PartialEq, Eq)]
+pub struct Worked {
+    pub owners: Vec<u8>,
+    pub prices: Vec<u32>,
+    pub moves: u64,
+    pub cuts: u8,
+}
+
+/// Works an accepted sheet, near the text of the scope document.
+pub fn work(sheet: &Sheet) -> Worked {
+    let costs = Costs::as_read(sheet);
+    let run = Run::to_the_end(&costs);
+    let price = |&price: &u64| u32::try_from(price).expect("a price has 32 bits");
+    Worked {
+        owners: run.owner.iter().map(|&agent| owner_byte(agent)).collect(),
+        prices: run.price.iter().map(price).collect(),
+        moves: run.moves,
+        cuts: u8::try_from(run.cuts()).expect("fewer cuts than agents"),
+    }
+}
+
 /// Refused: nothing lent changes. Shared: the first m owners and prices are
 /// written, the rest are kept, and the whole scratch is zeros.
 pub fn allocate(
+    sheet: &[u8],
+    owners: &mut [u8],
+    prices: &mut [u32],
+    scratch: &mut [u8],
+) -> ShareOut {
+    allocate_by(work, sheet, owners, prices, scratch)
+}
+
+/// The share-out with either way to work a sheet.
+pub fn allocate_by(
+    work: fn(&Sheet) -> Worked,
     sheet: &[u8],
     owners: &mut [u8],
     prices: &mut [u32],
@@ -28,17 +61,14 @@ pub fn allocate(
     if shortest < sheet.chores || scratch.len() < MIN_SCRATCH {
         return ShareOut::Refused(refusal::LENT);
     }
-    let costs = Costs::as_read(&sheet);
-    let run = Run::to_the_end(&costs);
-    for chore in 0..sheet.chores {
-        owners[chore] = owner_byte(run.owner[chore]);
-        prices[chore] = u32::try_from(run.price[chore]).expect("a price has 32 bits");
-    }
-    // The run needs no scratch; its end state is promised all the same.
+    let worked = work(&sheet);
+    owners[..sheet.chores].copy_from_slice(&worked.owners);
+    prices[..sheet.chores].copy_from_slice(&worked.prices);
+    // Neither way needs scratch; its end state is promised all the same.
     scratch.fill(0);
     ShareOut::Shared {
-        moves: run.moves,
-        cuts: u8::try_from(run.cuts()).expect("fewer cuts than agents"),
+        moves: worked.moves,
+        cuts: worked.cuts,
     }
 }
 

@@ -96,7 +96,13 @@ fn printed_cases() {
                  b 1000 moves 3 cuts 1\n\
                  b 1001 refused 3\n\
                  scratch 1024 moves 3 cuts 1\n\
-                 scratch 1023 refused 8\n";
+                 scratch 1023 refused 8\n\
+                 mark x refused 4\n\
+                 length 15 refused 5\n\
+                 owners 4 refused 6\n\
+                 owner 3 refused 7\n\
+                 price 0 refused 10\n\
+                 sheet 2 refused 9\n";
     assert_eq!(cases::print(), print);
 }
 

@@ -1,0 +1,59 @@
+//! Memory to lend: random content, with entries around it that must stay.
+
+use crate::random::Random;
+
+/// An odd number, so that a list of prices seldom starts at a multiple of four.
+const MARGIN: usize = 13;
+
+#[derive(Debug, Clone)]
+pub struct Lent<T> {
+    before: Vec<T>,
+    now: Vec<T>,
+}
+
+impl Lent<u8> {
+    pub fn bytes(random: &mut Random, length: usize) -> Self {
+        Self::with(random.bytes(length + 2 * MARGIN))
+    }
+}
+
+impl<T: Clone + PartialEq> Lent<T> {
+    pub fn new(length: usize, mut next: impl FnMut() -> T) -> Self {
+        Self::with((0..length + 2 * MARGIN).map(|_| next()).collect())
+    }
+
+    fn with(before: Vec<T>) -> Self {
+        let now = before.clone();
+        Lent { before, now }
+    }
+
+    /// The lent part.
+    pub fn part(&mut self) -> &mut [T] {
+        let end = self.now.len() - MARGIN;
+        &mut self.now[MARGIN..end]
+    }
+
+    /// The lent part, where its length is known.
+    pub fn array<const N: usize>(&mut self) -> &mut [T; N] {
+        let part = self.part();
+        part.try_into().expect("the array is as long as was lent")
+    }
+
+    /// What the lent part holds now.
+    pub fn now(&self) -> &[T] {
+        &self.now[MARGIN..self.now.len() - MARGIN]
+    }
+
+    /// What the lent part held at first.
+    pub fn at_first(&self) -> &[T] {
+        &self.before[MARGIN..self.before.len() - MARGIN]
+    }
+
+    /// The lent part holds this now, and the entries around it are as they were.
+    pub fn holds(&self, expected: &[T]) -> bool {
+        let end = self.now.len() - MARGIN;
+        self.now() == expected
+            && self.now[..MARGIN] == self.before[..MARGIN]
+            && self.now[end..] == self.before[end..]
+    }
+}

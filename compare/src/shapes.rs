@@ -1,0 +1,171 @@
+//! Random sheets of all shapes.
+
+use crate::random::{weights, Random};
+use reference::compose;
+
+/// What the rows of a sheet are like.
+#[derive(Debug, Clone, Copy, PartialEq, Eq)]
+pub enum Shape {
+    /// Agents differ in how many chores they like; some like none.
+    Tempers,
+    /// Each chore is liked by one agent, and some by none; the numbers of
+    /// liked chores differ widely.
+    Disjoint,
+    /// Some agents like one chore, two, three and so on, the others all the
+    /// rest: nothing makes more cuts.
+    Ladder,
+    /// Every agent likes something, but most chores nobody does.
+    Dear,
+    /// All rows are the same, so that sums are often equal.
+    Alike,
+    /// Most rows have difficult marks only.
+    Difficult,
+}
+
+pub const SHAPES: [Shape; 6] = [
+    Shape::Tempers,
+    Shape::Disjoint,
+    Shape::Ladder,
+    Shape::Dear,
+    Shape::Alike,
+    Shape::Difficult,
+];
+
+/// For each agent and chore, whether the mark is easy.
+type Likes = Vec<Vec<bool>>;
+
+pub fn rows(random: &mut Random, shape: Shape, agents: usize, chores: usize) -> Vec<String> {
+    let likes = match shape {
+        Shape::Tempers => tempers(random, agents, chores),
+        Shape::Disjoint => disjoint(random, agents, chores),
+        Shape::Ladder => ladder(random, agents, chores),
+        Shape::Dear => dear(random, agents, chores),
+        Shape::Alike => vec![tempers(random, 1, chores).remove(0); agents],
+        Shape::Difficult => difficult(random, agents, chores),
+    };
+    let mark = |&easy: &bool| if easy { 'e' } else { 'd' };
+    likes
+        .iter()
+        .map(|row| row.iter().map(mark).collect())
+        .collect()
+}
+
+fn tempers(random: &mut Random, agents: usize, chores: usize) -> Likes {
+    let mut row = || {
+        let percent = [0, 2, 8, 25, 50, 80, 100][random.below(7)];
+        (0..chores).map(|_| random.chance(percent)).collect()
+    };
+    (0..agents).map(|_| row()).collect()
+}
+
+fn disjoint(random: &mut Random, agents: usize, chores: usize) -> Likes {
+    let steepness = 1 + random.below(4);
+    let noise = [0, 0, 1, 3][random.below(4)];
+    let turn = random.below(agents);
+    let homes: Vec<usize> = (0..chores)
+        .map(|_| {
+            let lowest = (0..steepness).map(|_| random.below(agents + 1)).min();
+            (lowest.unwrap_or(0) * 5 + turn) % (agents + 1)
+        })
+        .collect();
+    let mut likes = |agent: usize, home: usize| home == agent || random.chance(noise);
+    let mut row = |agent: usize| homes.iter().map(|&home| likes(agent, home)).collect();
+    (0..agents).map(&mut row).collect()
+}
+
+fn ladder(random: &mut Random, agents: usize, chores: usize) -> Likes {
+    let rungs = random.below(agents);
+    let step = 1 + random.below(2);
+    let mut homes = Vec::with_capacity(chores);
+    for agent in 0..rungs {
+        homes.extend(vec![agent; 1 + step * agent]);
+    }
+    homes.resize(chores, rungs);
+    shuffle(random, &mut homes);
+    let mut row = |agent: usize| homes.iter().map(|&home| home == agent.min(rungs)).collect();
+    let mut likes: Likes = (0..agents).map(&mut row).collect();
+    shuffle(random, &mut likes);
+    likes
+}
+
+fn shuffle<T>(random: &mut Random, list: &mut [T]) {
+    for end in (1..list.len()).rev() {
+        list.swap(end, random.below(end + 1));
+    }
+}
+
+fn dear(random: &mut Random, agents: usize, chores: usize) -> Likes {
+    let liked = (chores / (2 + random.below(5))).max(1);
+    let percent = [5, 30, 60][random.below(3)];
+    let mut row = |_| {
+        let mut row: Vec<bool> = (0..chores)
+            .map(|chore| chore < liked && random.chance(percent))
+            .collect();
+        // Otherwise the row may be read as all easy.
+        if chores > 0 {
+            row[random.below(liked)] = true;
+        }
+        let turn = random.below(3).min(chores);
+        row.rotate_right(turn);
+        row
+    };
+    (0..agents).map(&mut row).collect()
+}
+
+fn difficult(random: &mut Random, agents: usize, chores: usize) -> Likes {
+    let mut likes = disjoint(random, agents, chores);
+    for row in &mut likes {
+        if random.chance(60) {
+            row.fill(false);
+        }
+    }
+    likes
+}
+
+pub fn sheet(random: &mut Random, shape: Shape, agents: usize, chores: usize) -> Vec<u8> {
+    let (easy, difficult) = weights(random);
+    compose::sheet(easy, difficult, &rows(random, shape, agents, chores))
+}
+
+pub fn any_shape(random: &mut Random) -> Shape {
+    SHAPES[random.below(SHAPES.len())]
+}
+
+/// Up to 6 agents and 13 chores.
+pub fn small_sheet(random: &mut Random) -> Vec<u8> {
+    let (agents, chores) = (1 + random.below(6), random.below(14));
+    let shape = any_shape(random);
+    sheet(random, shape, agents, chores)
+}
+
+/// Up to 12 agents and 60 chores.
+pub fn medium_sheet(random: &mut Random) -> Vec<u8> {
+    let (agents, chores) = (1 + random.below(12), random.below(61));
+    let shape = any_shape(random);
+    sheet(random, shape, agents, chores)
+}
+
+/// Any size up to the limits, often at them.
+pub fn large_sheet(random: &mut Random) -> Vec<u8> {
+    let agents = if random.chance(30) {
+        32
+    } else {
+        1 + random.below(32)
+    };
+    let chores = if random.chance(30) {
+        200
+    } else {
+        random.below(201)
+    };
+    let shape = any_shape(random);
+    sheet(random, shape, agents, chores)
+}
+
+/// Small sheets mostly, some of any size.
+pub fn any_sheet(random: &mut Random) -> Vec<u8> {
+    match random.below(20) {
+        0 | 1 => large_sheet(random),
+        2..=5 => medium_sheet(random),
+        _ => small_sheet(random),
+    }
+}

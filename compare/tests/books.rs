@@ -1,0 +1,239 @@
+//! Books against the second program: the lookup of each sheet, each sheet's
+//! answer, the long lists and the tally, and all lent memory.
+
+use compare::lent::Lent;
+use compare::random::Random;
+use compare::{books, shapes, BookAnswers, BOOK_SHEETS};
+use reference::limits::{BOOK_ENTRIES, MAX_BOOK_BYTES, MIN_SCRATCH};
+use reference::price_bytes::PRICE_BYTES;
+use reference::{compose, lookup, plain, price_bytes, BookShareOut, SheetShareOut};
+
+const WHOLE: usize = 40_000;
+const DAMAGED: usize = 40_000;
+const SHORT: usize = 19_700;
+const LARGE: usize = 300;
+
+/// Lengths of the owners, the bytes of prices and the scratch.
+type Lengths = [usize; 3];
+
+const LEAST: Lengths = [BOOK_ENTRIES, PRICE_BYTES * BOOK_ENTRIES, MIN_SCRATCH];
+
+/// The five lists of answers.
+struct Answers {
+    refusals: Lent<u8>,
+    moves: Lent<u64>,
+    cuts: Lent<u8>,
+    firsts: Lent<u32>,
+    tally: Lent<u64>,
+}
+
+impl Answers {
+    fn new(random: &mut Random) -> Self {
+        Answers {
+            refusals: Lent::bytes(random, BOOK_SHEETS),
+            moves: Lent::new(BOOK_SHEETS, || random.word()),
+            cuts: Lent::bytes(random, BOOK_SHEETS),
+            firsts: Lent::new(BOOK_SHEETS, || random.word() as u32),
+            tally: Lent::new(2, || random.word()),
+        }
+    }
+
+    fn lend(&mut self) -> BookAnswers<'_> {
+        BookAnswers {
+            refusals: self.refusals.array(),
+            moves: self.moves.array(),
+            cuts: self.cuts.array(),
+            firsts: self.firsts.array(),
+            tally: self.tally.array(),
+        }
+    }
+
+    fn are_kept(&self) -> bool {
+        self.refusals.holds(self.refusals.at_first())
+            && self.moves.holds(self.moves.at_first())
+            && self.cuts.holds(self.cuts.at_first())
+            && self.firsts.holds(self.firsts.at_first())
+            && self.tally.holds(self.tally.at_first())
+    }
+
+    /// Entries from the count of sheets on say 9, with zeros beside it.
+    fn tell(&self, answer: &BookShareOut) -> bool {
+        let (sheets, total) = match answer {
+            BookShareOut::Refused(_) => return self.are_kept(),
+            BookShareOut::Shared { sheets, total } => (sheets, total),
+        };
+        let mut refusals = [9; BOOK_SHEETS];
+        let mut moves = [0; BOOK_SHEETS];
+        let mut cuts = [0; BOOK_SHEETS];
+        let mut firsts = [0; BOOK_SHEETS];
+        for (i, sheet) in sheets.iter().enumerate() {
+            match *sheet {
+                SheetShareOut::Refused(number) => refusals[i] = number,
+                SheetShareOut::Shared {
+                    moves: of_moves,
+                    cuts: of_cuts,
+                    first,
+                } => {
+                    refusals[i] = 0;
+                    moves[i] = of_moves;
+                    cuts[i] = of_cuts;
+                    firsts[i] = first as u32;
+                }
+            }
+        }
+        self.refusals.holds(&refusals)
+            && self.moves.holds(&moves)
+            && self.cuts.holds(&cuts)
+            && self.firsts.holds(&firsts)
+            && self.tally.holds(&[total.moves, total.cuts])
+    }
+}
+
+/// One book through both programs, with every byte that was lent compared.
+fn compared(random: &mut Random, book: &[u8], lengths: Lengths) -> BookShareOut {
+    let mut lent = lengths.map(|length| Lent::bytes(random, length));
+    let [mut owners, mut prices, mut scratch] =
+        lent.each_ref().map(|lent| lent.at_first().to_vec());
+    let work = plain::work;
+    let answer = price_bytes::allocate_book(work, book, &mut owners, &mut prices, &mut scratch);
+    let expected = match answer {
+        BookShareOut::Refused(number) => number,
+        BookShareOut::Shared { .. } => 0,
+    };
+    let mut answers = Answers::new(random);
+    let [of_owners, of_prices, of_scratch] = lent.each_mut().map(Lent::part);
+    let number = compare::allocate_book(book, of_owners, of_prices, of_scratch, answers.lend());
+    assert_eq!(number, expected, "number of {book:?}, lent {lengths:?}");
+    assert!(
+        answers.tell(&answer),
+        "answers of {book:?}, lent {lengths:?}"
+    );
+    for (lent, expected, what) in [
+        (&lent[0], owners, "owners"),
+        (&lent[1], prices, "prices"),
+        (&lent[2], scratch, "scratch"),
+    ] {
+        assert!(
+            lent.holds(&expected),
+            "{what} of {book:?}, lent {lengths:?}"
+        );
+    }
+    answer
+}
+
+/// The lookup of sheets that the book has and of some that it has not.
+fn looked_up(random: &mut Random, book: &[u8]) {
+    let count = usize::from(book.first().copied().unwrap_or(0));
+    let some = 1 + random.below(count + 1);
+    for number in [0, 1, some, count, count + 1, some + 256, usize::MAX] {
+        let before = (random.word() as usize, random.word() as usize);
+        let (mut start, mut length) = before;
+        let refusal = compare::find_sheet(book, number, &mut start, &mut length);
+        let expected = match lookup(book, number) {
+            Err(refusal) => (refusal, before.0, before.1),
+            Ok(body) => {
+                let start = body.as_ptr() as usize - book.as_ptr() as usize;
+                (0, start, body.len())
+            }
+        };
+        let got = (refusal, start, length);
+        assert_eq!(got, expected, "sheet {number} of {book:?}");
+    }
+}
+
+fn enough(random: &mut Random) -> Lengths {
+    LEAST.map(|length| length + [0, 0, 1, 5, 40][random.below(5)])
+}
+
+#[test]
+fn whole_books() {
+    let mut random = Random::new(21);
+    let (mut full, mut mixed) = (0, 0);
+    for _ in 0..WHOLE {
+        let book = compose::book(&books::bodies(&mut random));
+        looked_up(&mut random, &book);
+        let lengths = enough(&mut random);
+        match compared(&mut random, &book, lengths) {
+            BookShareOut::Refused(number) => panic!("refused {number}: {book:?}"),
+            BookShareOut::Shared { sheets, .. } => {
+                let refused = |sheet: &SheetShareOut| matches!(sheet, SheetShareOut::Refused(_));
+                let count = sheets.iter().filter(|sheet| refused(sheet)).count();
+                full += usize::from(sheets.len() == BOOK_SHEETS);
+                mixed += usize::from(count > 0 && count < sheets.len());
+            }
+        }
+    }
+    assert!(full > WHOLE / 10 && mixed > WHOLE / 10, "{full} {mixed}");
+}
+
+#[test]
+fn damaged_books() {
+    let mut random = Random::new(22);
+    let mut refused = 0;
+    for _ in 0..DAMAGED {
+        let book = books::damaged_book(&mut random);
+        looked_up(&mut random, &book);
+        let mut lengths = enough(&mut random);
+        // A refused book is refused before short lists are.
+        if random.chance(10) {
+            lengths[random.below(3)] = 0;
+        }
+        let answer = compared(&mut random, &book, lengths);
+        refused += usize::from(answer == BookShareOut::Refused(9));
+    }
+    let shared = DAMAGED - refused;
+    assert!(refused > DAMAGED / 2 && shared > DAMAGED / 20, "{refused}");
+}
+
+#[test]
+fn short_lists() {
+    let mut random = Random::new(23);
+    let mut refused = 0;
+    for _ in 0..SHORT {
+        let book = compose::book(&books::bodies(&mut random));
+        let mut lengths = enough(&mut random);
+        let short = random.below(3);
+        lengths[short] = match random.below(4) {
+            0 => random.below(LEAST[short]),
+            1 => LEAST[short] - 1,
+            _ => LEAST[short] + 2 - random.below(6),
+        };
+        let answer = compared(&mut random, &book, lengths);
+        refused += usize::from(answer == BookShareOut::Refused(8));
+    }
+    assert!(refused > SHORT / 2 && refused < SHORT, "{refused}");
+}
+
+#[test]
+fn large_books() {
+    let mut random = Random::new(24);
+    for _ in 0..LARGE {
+        let book = books::large_book(&mut random);
+        looked_up(&mut random, &book);
+        let lengths = enough(&mut random);
+        compared(&mut random, &book, lengths);
+    }
+}
+
+/// Whole but for their length or their count of sheets.
+#[test]
+fn books_at_the_limits() {
+    let mut random = Random::new(25);
+    let mut all = vec![random.bytes(2 * MAX_BOOK_BYTES)];
+    for length in [MAX_BOOK_BYTES - 1, MAX_BOOK_BYTES, MAX_BOOK_BYTES + 1] {
+        all.push(compose::book(&[random.bytes(length - 5)]));
+        let one = 30_000;
+        let other = length - 9 - one;
+        all.push(compose::book(&[random.bytes(one), random.bytes(other)]));
+    }
+    for count in 0..40 {
+        let sheets: Vec<Vec<u8>> = (0..count)
+            .map(|_| shapes::small_sheet(&mut random))
+            .collect();
+        all.push(compose::book(&sheets));
+    }
+    for book in all {
+        looked_up(&mut random, &book);
+        compared(&mut random, &book, LEAST);
+    }
+}

@@ -1,0 +1,37 @@
+//! The share-out over flat lists against the one near the text.
+
+mod common;
+
+use common::Random;
+use reference::sheet::Sheet;
+use reference::{plain, share_out};
+
+/// Hands back the moves and the cuts.
+fn compare(sheet: &[u8]) -> (u64, u8) {
+    let parsed = Sheet::parse(sheet).unwrap();
+    let worked = plain::work(&parsed);
+    assert_eq!(worked, share_out::work(&parsed), "{sheet:?}");
+    (worked.moves, worked.cuts)
+}
+
+#[test]
+fn small_sheets() {
+    let mut random = Random::new(21);
+    for _ in 0..20_000 {
+        let (agents, chores) = (1 + random.below(7), random.below(20));
+        compare(&random.sheet(agents, chores));
+    }
+}
+
+#[test]
+fn sheets_of_any_size() {
+    let mut random = Random::new(22);
+    let (mut moves, mut cuts) = (0, 0);
+    for _ in 0..1_500 {
+        let (agents, chores) = (1 + random.below(32), random.below(201));
+        let (of_moves, of_cuts) = compare(&random.sheet(agents, chores));
+        moves = of_moves.max(moves);
+        cuts = of_cuts.max(cuts);
+    }
+    assert!(moves > 100 && cuts > 5, "{moves} {cuts}");
+}
