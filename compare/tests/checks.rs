@@ -103,7 +103,7 @@ fn large_lists_get_the_same_pair_or_a_dominating_list() {
         holds += usize::from(verdict == ListVerdict::Holds);
         wasteful += usize::from(verdict == ListVerdict::Wasteful);
     }
-    assert!(holds > 100 && wasteful > 50, "{holds} {wasteful}");
+    assert!(holds > 100 && wasteful > 100, "{holds} {wasteful}");
 }
 
 #[test]

@@ -28,7 +28,7 @@ or-else-requires-3 c κs = search needs
 
 returns : tie.Need-returns
 unfolding bookRefusal
-returns c = cc
+returns c = rw (c .or-else3 .ensures, c .before .or-else2 .ensures, c .before .before .or-else .ensures, c .before .before .before .before .before .before .contents-refusal .ensures, c .before .before .before .before .before .lent-refusal .ensures, c .before .before .before .before .lent-refusal2 .ensures, c .before .before .before .lent-refusal3 .ensures)
 
 pub book-refusal-spec : {M : Type 1} → statement M
 book-refusal-spec =
