@@ -16,7 +16,7 @@ use Rattle.sheet.specs.Valid.{Valid}
 use Rattle.sheet.proofs.OrElse.{or-else-zero}
 use Rattle.sheet.proofs.Refusal.{valid, lent-room}
 use Rattle.algorithm.proofs.Theorem.{demand3-of}
-use Rattle.allocation.specs.Turns.{stateOf}
+use Rattle.steps.specs.Turns.{stateOf}
 use Rattle.allocation.specs.Shared.{Shared}
 use Rattle.allocation.proofs.Running.{ended-shaped}
 

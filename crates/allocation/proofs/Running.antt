@@ -18,9 +18,9 @@ use Rattle.algorithm.proofs.Actions.{passing}
 use Rattle.algorithm.proofs.Machine.{fewer-cuts}
 use Rattle.algorithm.proofs.Begin.{opening-reached}
 use Rattle.algorithm.proofs.Ending.{reached, step-falls, done-reached}
-use Rattle.allocation.specs.Turns.{stateOf, Turning}
+use Rattle.steps.specs.Turns.{stateOf, Turning}
 use Rattle.allocation.specs.Runs.{Running, Kit}
-use Rattle.allocation.proofs.Ready.{reached-ready}
+use Rattle.steps.proofs.Ready.{reached-ready}
 
 -- the bound for the moves of a run, in numbers
 pub move-top-small : (I : Instance) → I .n ≤ 32 → I .m ≤ 4000 → I .b ≤ 1000 → moveTop I < 2 ^ 60

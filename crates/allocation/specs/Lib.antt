@@ -1,4 +1,2 @@
-pub mod Turns
-pub mod Looks
 pub mod Runs
 pub mod Shared

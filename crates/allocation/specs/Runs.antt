@@ -7,7 +7,7 @@ use Rattle.model.specs.Sheet.{asRead}
 use Rattle.model.specs.Algorithm.{busy, after, Ends}
 use Rattle.sheet.specs.Valid.{Valid}
 use Rattle.market.specs.Market.{Liked}
-use Rattle.allocation.specs.Turns.{stateOf}
+use Rattle.steps.specs.Turns.{stateOf}
 
 pub record Running (s owners prices groups entitled : List ℕ) (moves cuts stage : ℕ) : Type 0 where
   pub count : ℕ

@@ -7,7 +7,6 @@ ghost use Rattle.model.specs.Promises.{Allocated};
 ghost use Rattle.allocation.specs.Shared.{Sharing, Working, Shared};
 
 pub mod run;
-pub mod steps;
 
 use crate::run::Counts;
 use crate::run::run;

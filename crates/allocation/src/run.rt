@@ -3,11 +3,11 @@ ghost use mathlib.Core.Path.{_≡_};
 ghost use Prim.Native.Nat.{ℕ};
 ghost use Rattle.model.specs.Sheet.{asRead};
 ghost use Rattle.model.specs.Algorithm.{step};
-ghost use Rattle.allocation.specs.Turns.{stateOf, named, Turning};
+ghost use Rattle.steps.specs.Turns.{stateOf, named, Turning};
 ghost use Rattle.allocation.specs.Runs.{Running, Kit, RunEnds};
-use crate::steps::Turn;
-use crate::steps::step_2a;
-use crate::steps::step_2b;
+use steps::Turn;
+use steps::step_2a;
+use steps::step_2b;
 
 // Stage 0 is 2b; any other is the group at work in 2a.
 fn take_turn(

@@ -3,7 +3,7 @@ use native.Mathlib.Omega.{arith}
 use borrow.Author.Needs.{needs}
 use Rattle.model.specs.Sheet.{asRead}
 use Rattle.algorithm.specs.Reached.{stepNumber}
-use Rattle.allocation.specs.Turns.{stateOf}
+use Rattle.steps.specs.Turns.{stateOf}
 use Rattle.allocation.specs.Runs.{Running, Kit}
 use Rattle.allocation.proofs.Running.{state-reached, turning, moves-fit, cuts-fit, runs-on, passes-down, kit-on, falls, ends-here}
 use Rattle.allocation.proofs.run.run.Statement.{statement}

@@ -1,10 +1,10 @@
--- `allocation::steps::hand_over` meets its contract.
+-- `steps::hand_over` meets its contract.
 use Prim.Native.Nat.{_<_}
 use native.Mathlib.Omega.{arith}
 use borrow.Author.Needs.{needs}
-use Rattle.allocation.specs.Looks.{lowestOf, choreFor}
-use Rattle.allocation.proofs.steps.hand_over.Statement.{statement}
-use Rattle.allocation.proofs.steps.hand_over.Tie as tie
+use Rattle.steps.specs.Looks.{lowestOf, choreFor}
+use Rattle.steps.proofs.hand_over.Statement.{statement}
+use Rattle.steps.proofs.hand_over.Tie as tie
 
 lowest-requires : tie.Need-lowest-requires
 lowest-requires c κs = search needs

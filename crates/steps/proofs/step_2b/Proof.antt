@@ -1,8 +1,8 @@
 use native.Mathlib.Omega.{arith}
 use borrow.Author.Needs.{needs}
-use Rattle.allocation.proofs.Stepped.{cutting, cuts-fit, handing, moves-on, cuts-on, stops-here}
-use Rattle.allocation.proofs.steps.step_2b.Statement.{statement}
-use Rattle.allocation.proofs.steps.step_2b.Tie as tie
+use Rattle.steps.proofs.Stepped.{cutting, cuts-fit, handing, moves-on, cuts-on, stops-here}
+use Rattle.steps.proofs.step_2b.Statement.{statement}
+use Rattle.steps.proofs.step_2b.Tie as tie
 
 agents-requires : tie.Need-agents-requires
 agents-requires c κs = search needs

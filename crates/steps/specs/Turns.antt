@@ -10,8 +10,8 @@ use Rattle.sheet.specs.Valid.{Valid}
 use Rattle.algorithm.specs.Core.{Core}
 use Rattle.algorithm.specs.Reached.{Reached}
 use Rattle.market.specs.Market.{groupOf, entitledOf, Liked}
-use Rattle.allocation.specs.declared.steps.Turn.{Turn}
-use Rattle.allocation.specs.declared.steps.Turn.the-variants.{Moved, Passed, Cut, Ended}
+use Rattle.steps.specs.declared.Turn.{Turn}
+use Rattle.steps.specs.declared.Turn.the-variants.{Moved, Passed, Cut, Ended}
 
 abbrev pub stateOf : List ℕ → List ℕ → List ℕ → List ℕ → ℕ → ℕ → ℕ → State
 stateOf owners prices groups entitled moves cuts stage =

@@ -14,11 +14,11 @@ use Rattle.model.specs.Sheet.{agentsOf, choresOf, easyWeight, difficultWeight, 
 use Rattle.model.specs.Algorithm.{busy, done, step}
 use Rattle.market.specs.Cutting.{Cutting, CutPrices}
 use Rattle.algorithm.proofs.Machine.{fewer-cuts}
-use Rattle.allocation.specs.Turns.{stateOf, Turning}
-use Rattle.allocation.specs.Looks.{Look, Handing, lowestOf, choreFor}
-use Rattle.allocation.proofs.Ready.{held, owned}
-use Rattle.allocation.proofs.Looking.{look-receiver, look-chore}
-use Rattle.allocation.proofs.Turned.{receiver-known, chore-known, moved2b, ended2b, cut2b}
+use Rattle.steps.specs.Turns.{stateOf, Turning}
+use Rattle.steps.specs.Looks.{Look, Handing, lowestOf, choreFor}
+use Rattle.steps.proofs.Ready.{held, owned}
+use Rattle.steps.proofs.Looking.{look-receiver, look-chore}
+use Rattle.steps.proofs.Turned.{receiver-known, chore-known, moved2b, ended2b, cut2b}
 
 module _ {s owners prices groups entitled likes sums ups : List ℕ} {cuts : ℕ} (T : Turning s owners prices groups entitled likes sums ups cuts 0) where
   pub cutting : Cutting owners prices entitled (easyWeight s) (difficultWeight s)

@@ -18,9 +18,9 @@ use Rattle.model.specs.Step2a.{giver2a, receiver2a, due2a, chore2a}
 use Rattle.model.specs.Algorithm.{busy, step}
 use Rattle.market.specs.Market.{groupOf, entitledOf}
 use Rattle.market.specs.Results.{Summed}
-use Rattle.allocation.specs.Turns.{stateOf, Turning}
-use Rattle.allocation.proofs.Ready.{sum-is, up-is}
-use Rattle.allocation.proofs.Turned.{passed2a, moved2a, chore2a-known}
+use Rattle.steps.specs.Turns.{stateOf, Turning}
+use Rattle.steps.proofs.Ready.{sum-is, up-is}
+use Rattle.steps.proofs.Turned.{passed2a, moved2a, chore2a-known}
 
 module _ {s owners prices groups entitled likes sums ups : List ℕ} {cuts stage : ℕ} (T : Turning s owners prices groups entitled likes sums ups cuts stage) (some : 0 < stage) {sums′ ups′ : List ℕ} (S : Summed (agentsOf s) (length owners) owners prices sums′ ups′) {i j : ℕ} (gi : i ≡ chosen (length groups) (λ k. eqb (groupOf groups k) stage) (λ k l. ltb (getD ups′ l 0) (getD ups′ k 0))) (rj : j ≡ chosen (length groups) (λ k. ltb stage (groupOf groups k)) (λ k l. ltb (getD sums′ k 0) (getD sums′ l 0))) where
   giver-is : i ≡ giver2a (asRead s) (ownerOf owners) (priceOf prices) (groupOf groups) (entitledOf entitled) stage

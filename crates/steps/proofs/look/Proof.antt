@@ -1,11 +1,11 @@
--- `allocation::steps::look` meets its contract.
+-- `steps::look` meets its contract.
 use native.Mathlib.Omega.{arith}
 use borrow.Author.Needs.{needs}
 use Rattle.model.specs.Sheet.{asRead}
 use mathlib.Core.Path.{refl}
-use Rattle.allocation.proofs.Ready.{held, owned, asking, searching, any-is}
-use Rattle.allocation.proofs.steps.look.Statement.{statement}
-use Rattle.allocation.proofs.steps.look.Tie as tie
+use Rattle.steps.proofs.Ready.{held, owned, asking, searching, any-is}
+use Rattle.steps.proofs.look.Statement.{statement}
+use Rattle.steps.proofs.look.Tie as tie
 
 agents-requires : tie.Need-agents-requires
 agents-requires c κs = search needs

@@ -9,7 +9,7 @@ use Rattle.model.specs.Instance.{ownerOf, priceOf}
 use Rattle.model.specs.Sheet.{agentsOf, choresOf, asRead}
 use Rattle.model.specs.Step2b.{receiver2b, chore2b}
 use Rattle.rings.proofs.Found.{receiver-is, chore-is}
-use Rattle.allocation.specs.Looks.{Look, lowestOf, choreFor}
+use Rattle.steps.specs.Looks.{Look, lowestOf, choreFor}
 
 module _ {s owners prices groups entitled likes : List ℕ} {giver takers reached free grouped : ℕ} {any : Bool} (L : Look s owners prices groups entitled likes giver takers reached free grouped any) (somebody : giver < agentsOf s) where
   pub look-receiver : lowestOf (agentsOf s) takers ≡ receiver2b (asRead s) (ownerOf owners) (priceOf prices)

@@ -1,9 +1,9 @@
 use mathlib.Core.Path.{refl}
 use borrow.Author.Needs.{needs}
-use Rattle.allocation.proofs.Ready.{held, owned}
-use Rattle.allocation.proofs.Staged.{passes-giver, passes-receiver, passes-sum, chore-there, hands-on}
-use Rattle.allocation.proofs.steps.step_2a.Statement.{statement}
-use Rattle.allocation.proofs.steps.step_2a.Tie as tie
+use Rattle.steps.proofs.Ready.{held, owned}
+use Rattle.steps.proofs.Staged.{passes-giver, passes-receiver, passes-sum, chore-there, hands-on}
+use Rattle.steps.proofs.step_2a.Statement.{statement}
+use Rattle.steps.proofs.step_2a.Tie as tie
 
 agents-requires : tie.Need-agents-requires
 agents-requires c κs = search needs

@@ -19,8 +19,8 @@ use Rattle.algorithm.proofs.Rings.{due-found}
 use Rattle.algorithm.proofs.Stage.{stage-due}
 use Rattle.market.specs.Market.{groupOf, entitledOf}
 use Rattle.market.specs.Cutting.{CutPrices}
-use Rattle.allocation.specs.Turns.{stateOf, Turning}
-use Rattle.allocation.proofs.Ready.{sound}
+use Rattle.steps.specs.Turns.{stateOf, Turning}
+use Rattle.steps.proofs.Ready.{sound}
 
 -- step 2b
 module _ {s owners prices groups entitled likes sums ups : List ℕ} {cuts : ℕ} (T : Turning s owners prices groups entitled likes sums ups cuts 0) (moves : ℕ) where

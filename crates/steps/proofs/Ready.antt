@@ -31,7 +31,7 @@ use Rattle.market.specs.Results.{Summed}
 use Rattle.rings.specs.Offers.{Owned, Offered, Asking}
 use Rattle.rings.specs.Search.{Searching}
 use Rattle.rings.proofs.Wanting.{offer-set}
-use Rattle.allocation.specs.Turns.{stateOf, Ready}
+use Rattle.steps.specs.Turns.{stateOf, Ready}
 
 -- prices are at most 1,000,000
 price-fits : {s : List ℕ} {x p group : ℕ → ℕ} {cut : ℕ → Bool} → Valid s → Core (asRead s) x p group cut → (c : ℕ) → c < choresOf s → p c ≤ maxPrice
