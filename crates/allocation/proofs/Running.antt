@@ -42,7 +42,7 @@ module _ {s : List ℕ} (v : Valid s) {owners prices groups entitled : List ℕ}
   turning k =
       record { ready = reached-ready v state-reached (k .liking) (k .sumsSized) (k .upsSized); moves = moves; reached = state-reached }
 
-  pub moves-fit : moves + 1 < 2 ^ 64
+  pub moves-fit : moves < 2 ^ 60
   unfolding asRead
   moves-fit =
       omega (arith, state-reached .budget, move-top-small (asRead s) (v .agentsFit) (omega (arith, v .choresFit)) (v .weightFits))
