@@ -57,3 +57,15 @@ impl<T: Clone + PartialEq> Lent<T> {
             && self.now[end..] == self.before[end..]
     }
 }
+
+/// The owners, the bytes of prices and the scratch hold what is expected, and nothing beside them has changed.
+pub fn assert_all_hold(lent: &[Lent<u8>; 3], expected: [Vec<u8>; 3], input: &[u8]) {
+    let names = ["owners", "prices", "scratch"];
+    for ((lent, expected), name) in lent.iter().zip(expected).zip(names) {
+        assert!(
+            lent.holds(&expected),
+            "{name} of {input:?}: {:?} for {expected:?}, or a byte beside them",
+            lent.now()
+        );
+    }
+}

@@ -1,7 +1,7 @@
 //! Books against the second program: the lookup of each sheet, each sheet's
 //! answer, the long lists and the tally, and all lent memory.
 
-use compare::lent::Lent;
+use compare::lent::{assert_all_hold, Lent};
 use compare::random::Random;
 use compare::{books, shapes, BookAnswers, BOOK_SHEETS};
 use reference::limits::{BOOK_ENTRIES, MAX_BOOK_BYTES, MIN_SCRATCH};
@@ -108,16 +108,7 @@ fn compared(random: &mut Random, book: &[u8], lengths: Lengths) -> BookShareOut 
         answers.tell(&answer),
         "answers of {book:?}, lent {lengths:?}"
     );
-    for (lent, expected, what) in [
-        (&lent[0], owners, "owners"),
-        (&lent[1], prices, "prices"),
-        (&lent[2], scratch, "scratch"),
-    ] {
-        assert!(
-            lent.holds(&expected),
-            "{what} of {book:?}, lent {lengths:?}"
-        );
-    }
+    assert_all_hold(&lent, [owners, prices, scratch], book);
     answer
 }
 

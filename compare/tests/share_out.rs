@@ -1,6 +1,6 @@
 //! The share-out against the second program: owners, prices, moves, cuts and all lent memory.
 
-use compare::lent::Lent;
+use compare::lent::{assert_all_hold, Lent};
 use compare::random::{damaged, Random};
 use compare::shapes::{self, Shape};
 use reference::limits::MIN_SCRATCH;
@@ -41,17 +41,7 @@ fn compared(random: &mut Random, way: Way, sheet: &[u8], lengths: Lengths) -> Sh
         got, expected,
         "number, moves, cuts of {sheet:?}, lent {lengths:?}"
     );
-    for (lent, expected, what) in [
-        (&lent[0], owners, "owners"),
-        (&lent[1], prices, "prices"),
-        (&lent[2], scratch, "scratch"),
-    ] {
-        assert!(
-            lent.holds(&expected),
-            "{what} of {sheet:?}, lent {lengths:?}: {:?} for {expected:?}, or a byte beside them",
-            lent.now()
-        );
-    }
+    assert_all_hold(&lent, [owners, prices, scratch], sheet);
     answer
 }
 

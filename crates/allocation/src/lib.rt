@@ -6,7 +6,7 @@ ghost use Rattle.model.specs.Refusals.{allocateRefusal};
 ghost use Rattle.model.specs.Promises.{Allocated};
 ghost use Rattle.allocation.specs.Shared.{Sharing, Working, Shared};
 
-pub mod run;
+mod run;
 
 use crate::run::Counts;
 use crate::run::run;

@@ -1,6 +1,7 @@
 -- `capi::shares_find_sheet` meets its contract: where nothing is refused, the entry of the contents says where the sheet lies.
 use Prim.Native.Nat.{_+_, _-_, _*_, _≤_}
 use mathlib.Core.Path.{_≡_, sym, _∙_}
+use native.Mathlib.Omega.{arith}
 use lib.ListN.{length}
 use borrow.Author.Needs.{needs}
 use Rattle.model.specs.Refusals.{lookupRefusal}
@@ -27,7 +28,7 @@ sub-j : tie.Need-sub-j
 sub-j c = some-number _ _ (right c)
 
 start-of-requires : tie.Need-start-of-requires
-start-of-requires c κs = entry c
+start-of-requires c κs = omega (arith, entry c)
 
 size-of-requires : tie.Need-size-of-requires
 size-of-requires c κs = entry (c .before)
