@@ -103,23 +103,25 @@ uint32_t shares_check_prices(const uint8_t *sheet, size_t sheet_len,
 /* Looks up a sheet of a book by its number. The sheet itself is not judged.
  *
  * Returns 0: *start is the place of its first byte in the book, counted from 0,
- * and *length its number of bytes.
- * Returns 9: the bytes are no book, or number is 0 or above the count of sheets.
+ * and *size its number of bytes.
+ * Returns 9: the bytes are no book, or sheet_number is 0 or above the count of
+ * sheets.
  */
-uint8_t shares_find_sheet(const uint8_t *book, size_t book_len, size_t number,
-                          size_t *start, size_t *length);
+uint8_t shares_find_sheet(const uint8_t *book, size_t book_len,
+                          size_t sheet_number, size_t *start, size_t *size);
 
 /* Shares out every sheet of a book, each into the next free stretch of both
  * long lists. A refused sheet takes no entries.
  *
  * Lent: owners, at least 3,200 bytes; prices, at least 12,800 bytes; scratch, at
  * least 1,024 bytes.
- * Returns 0: entry i of each list tells of sheet i + 1. refusals has 0, or the
- * sheet's number 1 to 5, or 9 for a sheet that the book does not have. Beside 0
- * are the sheet's moves, its cuts and its first entry in the long lists, counted
- * from 0; beside other numbers are zeros. All 16 entries are written. tally has
- * the moves and the cuts of all accepted sheets. The long lists are kept outside
- * the stretches of accepted sheets, and the whole scratch is zeros.
+ * Returns 0: entry i of each list of results tells of sheet i + 1. refusals has 0
+ * or the sheet's number 1 to 5. Beside 0 are the sheet's moves, its cuts and its
+ * first entry in the long lists, counted from 0; beside other numbers are zeros.
+ * The entries after those of the book's sheets, book[0] of them, keep what they
+ * held. tally has the moves and the cuts of all accepted sheets. The long lists
+ * are kept outside the stretches of accepted sheets, and the whole scratch is
+ * zeros.
  * Returns a refusal number: 9, 8.
  */
 uint8_t shares_allocate_book(const uint8_t *book, size_t book_len,

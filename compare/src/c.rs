@@ -33,9 +33,9 @@ extern "C" {
     pub fn shares_find_sheet(
         book: *const u8,
         book_len: usize,
-        number: usize,
+        sheet_number: usize,
         start: *mut usize,
-        length: *mut usize,
+        size: *mut usize,
     ) -> u8;
     pub fn shares_allocate_book(
         book: *const u8,

@@ -50,10 +50,10 @@ pub fn allocate(
     }
 }
 
-/// 0 or the refusal number; the stretch of the book is told by start and length.
-pub fn find_sheet(book: &[u8], number: usize, start: &mut usize, length: &mut usize) -> u8 {
+/// 0 or the refusal number; the stretch of the book is told by start and size.
+pub fn find_sheet(book: &[u8], sheet_number: usize, start: &mut usize, size: &mut usize) -> u8 {
     // SAFETY: as in `allocate`.
-    unsafe { c::shares_find_sheet(book.as_ptr(), book.len(), number, start, length) }
+    unsafe { c::shares_find_sheet(book.as_ptr(), book.len(), sheet_number, start, size) }
 }
 
 /// 0 or the book's refusal number.
@@ -64,7 +64,7 @@ pub fn allocate_book(
     scratch: &mut [u8],
     answers: BookAnswers,
 ) -> u8 {
-    // SAFETY: as in `allocate`; each list of answers has the entries that the call writes.
+    // SAFETY: as in `allocate`; each list of answers has an entry for each of 16 sheets.
     unsafe {
         c::shares_allocate_book(
             book.as_ptr(),

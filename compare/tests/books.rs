@@ -56,30 +56,21 @@ impl Answers {
             && self.tally.holds(self.tally.at_first())
     }
 
-    /// Entries from the count of sheets on say 9, with zeros beside it.
+    /// Zeros stand beside a refused sheet. Entries from the count of sheets on are as they were, and with a refusal all of them.
     fn tell(&self, answer: &BookShareOut) -> bool {
         let (sheets, total) = match answer {
             BookShareOut::Refused(_) => return self.are_kept(),
             BookShareOut::Shared { sheets, total } => (sheets, total),
         };
-        let mut refusals = [9; BOOK_SHEETS];
-        let mut moves = [0; BOOK_SHEETS];
-        let mut cuts = [0; BOOK_SHEETS];
-        let mut firsts = [0; BOOK_SHEETS];
+        let mut refusals = self.refusals.at_first().to_vec();
+        let mut moves = self.moves.at_first().to_vec();
+        let mut cuts = self.cuts.at_first().to_vec();
+        let mut firsts = self.firsts.at_first().to_vec();
         for (i, sheet) in sheets.iter().enumerate() {
-            match *sheet {
-                SheetShareOut::Refused(number) => refusals[i] = number,
-                SheetShareOut::Shared {
-                    moves: of_moves,
-                    cuts: of_cuts,
-                    first,
-                } => {
-                    refusals[i] = 0;
-                    moves[i] = of_moves;
-                    cuts[i] = of_cuts;
-                    firsts[i] = first as u32;
-                }
-            }
+            (refusals[i], moves[i], cuts[i], firsts[i]) = match *sheet {
+                SheetShareOut::Refused(number) => (number, 0, 0, 0),
+                SheetShareOut::Shared { moves, cuts, first } => (0, moves, cuts, first as u32),
+            };
         }
         self.refusals.holds(&refusals)
             && self.moves.holds(&moves)
@@ -118,8 +109,8 @@ fn looked_up(random: &mut Random, book: &[u8]) {
     let some = 1 + random.below(count + 1);
     for number in [0, 1, some, count, count + 1, some + 256, usize::MAX] {
         let before = (random.word() as usize, random.word() as usize);
-        let (mut start, mut length) = before;
-        let refusal = compare::find_sheet(book, number, &mut start, &mut length);
+        let (mut start, mut size) = before;
+        let refusal = compare::find_sheet(book, number, &mut start, &mut size);
         let expected = match lookup(book, number) {
             Err(refusal) => (refusal, before.0, before.1),
             Ok(body) => {
@@ -127,7 +118,7 @@ fn looked_up(random: &mut Random, book: &[u8]) {
                 (0, start, body.len())
             }
         };
-        let got = (refusal, start, length);
+        let got = (refusal, start, size);
         assert_eq!(got, expected, "sheet {number} of {book:?}");
     }
 }

@@ -1,10 +1,11 @@
 //! The limits among the sheets to try, and one case for every other refusal.
 
-use crate::book::lookup;
+use crate::book::{chores_of, lookup};
 use crate::checks::{check_list, check_prices, ListVerdict, PriceVerdict};
 use crate::compose;
 use crate::limits::{MAX_AGENTS, MAX_CHORES, MAX_WEIGHT, MIN_SCRATCH};
 use crate::share_out::{allocate, ShareOut};
+use std::fmt::Display;
 
 /// One line per case: its name, then the answer.
 pub fn print() -> String {
@@ -43,7 +44,7 @@ fn limits() -> Vec<String> {
 }
 
 /// The numbers that no limit above gives, each by a fault at the end of C, of
-/// its list, of its prices or of a book that holds it alone.
+/// its list or of its prices, or by a lookup in a book of C and of no bytes.
 fn refusals() -> Vec<String> {
     let sheet = sheet_c();
     let (last, most) = (sheet.len() - 1, OWNERS.len() - 1);
@@ -53,15 +54,16 @@ fn refusals() -> Vec<String> {
     owners[most] = 3;
     let mut prices = PRICES;
     prices[most] = 0;
-    let book = compose::book(&[&sheet]);
-    vec![
+    let book = compose::book(&[sheet.as_slice(), &[]]);
+    let mut lines = vec![
         format!("mark x {}", shared(&marked, MIN_SCRATCH)),
         format!("length {last} {}", shared(&sheet[..last], MIN_SCRATCH)),
         format!("owners {most} {}", listed(&sheet, &OWNERS[..most])),
         format!("owner 3 {}", listed(&sheet, &owners)),
         format!("price 0 {}", priced(&sheet, &prices)),
-        format!("sheet 2 {}", found(&book, 2)),
-    ]
+    ];
+    lines.extend((0..=3).map(|number| format!("sheet {number} {}", found(&book, number))));
+    lines
 }
 
 fn refused(number: u8) -> String {
@@ -73,8 +75,16 @@ fn shared(sheet: &[u8], scratch: usize) -> String {
     let mut prices = [0; MAX_CHORES + 1];
     match allocate(sheet, &mut owners, &mut prices, &mut vec![0; scratch]) {
         ShareOut::Refused(number) => refused(number),
-        ShareOut::Shared { moves, cuts } => format!("moves {moves} cuts {cuts}"),
+        ShareOut::Shared { moves, cuts } => {
+            let m = chores_of(sheet);
+            let (owners, prices) = (spaced(&owners[..m]), spaced(&prices[..m]));
+            format!("moves {moves} cuts {cuts} owners{owners} prices{prices}")
+        }
     }
+}
+
+fn spaced<T: Display>(numbers: &[T]) -> String {
+    numbers.iter().map(|number| format!(" {number}")).collect()
 }
 
 fn listed(sheet: &[u8], owners: &[u8]) -> String {
@@ -94,6 +104,6 @@ fn priced(sheet: &[u8], prices: &[u32]) -> String {
 fn found(book: &[u8], number: usize) -> String {
     match lookup(book, number) {
         Err(number) => refused(number),
-        Ok(sheet) => format!("of {} bytes", sheet.len()),
+        Ok(sheet) => format!("of {} bytes {}", sheet.len(), shared(sheet, MIN_SCRATCH)),
     }
 }

@@ -89,20 +89,31 @@ fn limit_of_the_scratch() {
 
 #[test]
 fn printed_cases() {
-    let print = "n 32 moves 2 cuts 0\n\
-                 n 33 refused 1\n\
-                 m 200 moves 100 cuts 0\n\
-                 m 201 refused 2\n\
-                 b 1000 moves 3 cuts 1\n\
-                 b 1001 refused 3\n\
-                 scratch 1024 moves 3 cuts 1\n\
-                 scratch 1023 refused 8\n\
-                 mark x refused 4\n\
-                 length 15 refused 5\n\
-                 owners 4 refused 6\n\
-                 owner 3 refused 7\n\
-                 price 0 refused 10\n\
-                 sheet 2 refused 9\n";
+    let c = "moves 3 cuts 1 owners 2 2 1 1 2 prices 3 3 3 3 1";
+    let wide = [" 2".repeat(100), " 1".repeat(100)].concat();
+    let print = [
+        "n 32 moves 2 cuts 0 owners 2 3 1 prices 2 2 4",
+        "n 33 refused 1",
+        &format!(
+            "m 200 moves 100 cuts 0 owners{wide} prices{}",
+            " 2".repeat(200)
+        ),
+        "m 201 refused 2",
+        "b 1000 moves 3 cuts 1 owners 2 2 1 1 2 prices 1000 1000 1000 1000 1",
+        "b 1001 refused 3",
+        &format!("scratch 1024 {c}"),
+        "scratch 1023 refused 8",
+        "mark x refused 4",
+        "length 15 refused 5",
+        "owners 4 refused 6",
+        "owner 3 refused 7",
+        "price 0 refused 10",
+        "sheet 0 refused 9",
+        &format!("sheet 1 of 16 bytes {c}"),
+        "sheet 2 of 0 bytes refused 5",
+        "sheet 3 refused 9\n",
+    ]
+    .join("\n");
     assert_eq!(cases::print(), print);
 }
 

@@ -1,7 +1,6 @@
 -- The opening state is a reached one. Of the opening no more is used than `Opened` says.
 -- Assumes nothing.
 use Prim.Native.Nat.{ℕ, _-_, _*_, _<_}
-use mathlib.Core.Bool.{false}
 use mathlib.Core.Path.{_≡_, refl, ap}
 use native.Mathlib.Nat.{le-of-eq}
 use native.Mathlib.Omega.{arith}
@@ -9,24 +8,15 @@ use lib.Dec.{ltb}
 use borrow.Author.Tests.{le-ltb}
 use Rattle.finite.proofs.Counts.{count-none}
 use Rattle.model.specs.Instance.{Instance}
-use Rattle.model.specs.Algorithm.{State, owner, price, group, isEntitled, opening}
+use Rattle.model.specs.Algorithm.{State, owner, price, group, opening}
 use Rattle.algorithm.specs.Kinds.{Sound}
 use Rattle.algorithm.specs.Phases.{calm}
-use Rattle.algorithm.specs.Reached.{roundTop, moveTop, stepNumber, Shaped, in2b, Reached}
+use Rattle.algorithm.specs.Reached.{roundTop, moveTop, stepNumber, in2b, Reached}
+use Rattle.algorithm.specs.Opened.{Beginning}
 use Rattle.algorithm.proofs.Best.{price-bound}
 use Rattle.algorithm.proofs.Measure.{measure2b-top}
-use Rattle.algorithm.proofs.Opening.{Opened, core-opened, opening-group, opening-entitled, opening-owners-length, opening-prices-length, opening-groups-length, opening-entitled-length, opening-picks, opening-opened}
+use Rattle.algorithm.proofs.Opening.{core-opened, opening-group, opening-entitled, opening-owners-length, opening-prices-length, opening-groups-length, opening-entitled-length, opening-picks, opening-opened}
 use Rattle.algorithm.proofs.Machine.{in2b-number}
-
--- A state in which round 1 begins.
-pub record Beginning (I : Instance) (s : State) : Type 0 where
-  pub shaped : Shaped I s
-  pub opened : Opened I (owner I s) (price I s)
-  pub noGroups : (i : ℕ) → i < I .n → group I s i ≡ 0
-  pub noneEntitled : (c : ℕ) → c < I .m → isEntitled I s c ≡ false
-  pub noMoves : s .moves ≡ 0
-  pub noCuts : s .cuts ≡ 0
-  pub in2b : s .stage ≡ 0
 
 pub begin-reached : {I : Instance} {s : State} → Sound I → Beginning I s → Reached I s
 unfolding stepNumber moveTop

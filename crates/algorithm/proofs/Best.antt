@@ -3,35 +3,31 @@
 use Prim.Native.Nat.{ℕ, _+_, _*_, _≤_, _<_}
 use mathlib.Core.Bool.{Bool, true, false, cond, not, _&&_, _||_}
 use mathlib.Core.Path.{_≡_, refl, sym, ap, _∙_}
-use native.Mathlib.Nat.{mul-le-mul, mul-le-mul-left, le-of-mul-le-mul-left, le-refl}
+use native.Mathlib.Nat.{mul-le-mul, mul-le-mul-left, le-refl}
 use native.Mathlib.Omega.{arith}
 use lib.Dec.{leb, ltb}
 use borrow.Author.Tests.{leb-true, le-leb, lt-leb, eq-eqb, ne-eqb, ltb-true, not-true}
-use Rattle.finite.specs.Search.{allBelow}
-use Rattle.finite.proofs.Tests.{by-test, clash, bool-eq, and-elim, and-intro, or-rest, or-left, or-right, or-none, not-on, not-off}
-use Rattle.finite.proofs.Below.{by-same, by-less}
-use Rattle.finite.proofs.Search.{Hit, any-intro, all-elim, all-intro, all-cong}
+use Rattle.finite.specs.Search.{allBelow, Hit}
+use Rattle.finite.specs.Moves.{Moves}
+use Rattle.finite.proofs.Tests.{by-test, clash, bool-eq, and-elim, and-intro, or-rest, or-left, or-right, or-none, not-on, not-off, leb-scaled}
+use Rattle.finite.proofs.Below.{by-less}
+use Rattle.finite.proofs.Search.{any-intro, all-elim, all-intro, all-cong}
 use Rattle.finite.proofs.Extremes.{Top}
-use Rattle.finite.proofs.Fibres.{Moves}
+use Rattle.finite.proofs.Moves.{moves-each}
 use Rattle.model.specs.Instance.{Instance, cost}
 use Rattle.model.specs.Prices.{best, ratioAtMost}
-use Rattle.algorithm.specs.Kinds.{Sound, dear, ok, kindPrice, wanted}
+use Rattle.algorithm.specs.Kinds.{Sound, dear, ok, level, kindPrice, wanted}
 use Rattle.algorithm.specs.Core.{Core}
 
 by-zero {ℓ} : {A : Type ℓ} (g : ℕ) → (g ≡ 0 → A) → (0 < g → A) → A
 by-zero g none some = by-less 0 g some (λ h. none (omega arith))
 
--- two comparisons that say the same
-pub leb-same : (a b c d : ℕ) → (a ≤ b → c ≤ d) → (c ≤ d → a ≤ b) → leb a b ≡ leb c d
-leb-same a b c d f g =
-    bool-eq (λ e. le-leb c d (f (leb-true a b e))) (λ e. le-leb a b (g (leb-true c d e)))
-
 -- cross products of costs and prices compare as the prices per unit of cost
 cross : (b k l p q u v : ℕ) → 0 < b → 0 < k * l → b * p ≡ k * u → b * q ≡ l * v → leb (k * q) (l * p) ≡ leb v u
 cross b k l p q u v hb hkl e f =
-    leb-same (k * q) (l * p) v u
-    (λ h. le-of-mul-le-mul-left {k = k * l} (omega (arith, mul-le-mul-left b h, ap (λ s. l * s) e, ap (λ s. k * s) f)) hkl)
-    (λ h. le-of-mul-le-mul-left {k = b} (omega (arith, mul-le-mul-left (k * l) h, ap (λ s. l * s) e, ap (λ s. k * s) f)) hb)
+    let left : b * (k * q) ≡ k * l * v = omega (arith, ap (λ s. k * s) f) in
+    let right : b * (l * p) ≡ k * l * u = omega (arith, ap (λ s. l * s) e) in
+    leb-scaled (k * q) (l * p) v u left right hb hkl
 
 -- whether r is above all of f is whether it is above the greatest
 all-top : {n : ℕ} {f : ℕ → ℕ} {l : ℕ} → Top n f l → (r : ℕ) → allBelow n (λ i. leb (f i) r) ≡ leb l r
@@ -40,26 +36,22 @@ all-top {n} {f} {l} t r =
     (λ e. let h = all-elim n (λ i. leb (f i) r) e (t .index) (t .below) in rw (t .value) at h)
     (λ e. all-intro n (λ i. leb (f i) r) (λ i h. le-leb (f i) r (omega (arith, t .above i h, leb-true l r e))))
 
--- b times the price of a chore, per unit of cost, for an agent for whom it is ok or not; of a chore's kind: its price
-level : (a b : ℕ) → Bool → Bool → ℕ
-level a b isCut good = cond isCut (cond good (a * b) (a * a)) (cond good (b * b) (a * b))
-
-module _ {a b : ℕ} (pos : 0 < a) (easier : a < b) where
-  squares : (0 < a * a) × (a * a < a * b) × (a * b < b * b)
+module _ {I : Instance} (S : Sound I) where
+  squares : (0 < I .a * I .a) × (I .a * I .a < I .a * I .b) × (I .a * I .b < I .b * I .b)
   squares =
-      let h : a * 1 ≤ a * a = mul-le-mul-left a pos in
-      let k : a * (a + 1) ≤ a * b = mul-le-mul-left a (omega arith) in
-      let l : (a + 1) * b ≤ b * b = mul-le-mul (omega arith) (le-refl b) in
+      let h : I .a * 1 ≤ I .a * I .a = mul-le-mul-left (I .a) (S .positive) in
+      let k : I .a * (I .a + 1) ≤ I .a * I .b = mul-le-mul-left (I .a) (omega (arith, S .easier)) in
+      let l : (I .a + 1) * I .b ≤ I .b * I .b = mul-le-mul (omega (arith, S .easier)) (le-refl (I .b)) in
       (omega arith, omega arith, omega arith)
 
-  level-positive : (k g : Bool) → 0 < level a b k g
+  level-positive : (k g : Bool) → 0 < level I k g
   unfolding level
   level-positive true true = omega (arith, squares)
   level-positive true false = omega (arith, squares)
   level-positive false true = omega (arith, squares)
   level-positive false false = omega (arith, squares)
 
-  level-bound : (k g : Bool) → level a b k g ≤ b * b
+  level-bound : (k g : Bool) → level I k g ≤ I .b * I .b
   unfolding level
   level-bound true true = omega (arith, squares)
   level-bound true false = omega (arith, squares)
@@ -67,28 +59,28 @@ module _ {a b : ℕ} (pos : 0 < a) (easier : a < b) where
   level-bound false false = omega (arith, squares)
 
   -- cut, or not ok
-  level-lower : (k g : Bool) → (k ≡ false → g ≡ false) → level a b k g ≤ a * b
+  level-lower : (k g : Bool) → (k ≡ false → g ≡ false) → level I k g ≤ I .a * I .b
   unfolding level
   level-lower true true h = omega (arith, squares)
   level-lower true false h = omega (arith, squares)
   level-lower false true h = absurd (clash refl (h refl))
   level-lower false false h = omega (arith, squares)
 
-  level-high : (k g : Bool) → leb (b * b) (level a b k g) ≡ (not k && g)
+  level-high : (k g : Bool) → leb (I .b * I .b) (level I k g) ≡ (not k && g)
   unfolding level
-  level-high true true = lt-leb (b * b) (a * b) (squares .2)
-  level-high true false = lt-leb (b * b) (a * a) (omega (arith, squares))
-  level-high false true = le-leb (b * b) (b * b) (omega arith)
-  level-high false false = lt-leb (b * b) (a * b) (squares .2)
+  level-high true true = lt-leb (I .b * I .b) (I .a * I .b) (squares .2)
+  level-high true false = lt-leb (I .b * I .b) (I .a * I .a) (omega (arith, squares))
+  level-high false true = le-leb (I .b * I .b) (I .b * I .b) (omega arith)
+  level-high false false = lt-leb (I .b * I .b) (I .a * I .b) (squares .2)
 
-  level-middle : (k g : Bool) → leb (a * b) (level a b k g) ≡ (not k || g)
+  level-middle : (k g : Bool) → leb (I .a * I .b) (level I k g) ≡ (not k || g)
   unfolding level
-  level-middle true true = le-leb (a * b) (a * b) (omega arith)
-  level-middle true false = lt-leb (a * b) (a * a) (squares .1)
-  level-middle false true = le-leb (a * b) (b * b) (omega (arith, squares))
-  level-middle false false = le-leb (a * b) (a * b) (omega arith)
+  level-middle true true = le-leb (I .a * I .b) (I .a * I .b) (omega arith)
+  level-middle true false = lt-leb (I .a * I .b) (I .a * I .a) (squares .1)
+  level-middle false true = le-leb (I .a * I .b) (I .b * I .b) (omega (arith, squares))
+  level-middle false false = le-leb (I .a * I .b) (I .a * I .b) (omega arith)
 
-  level-cost : (e d k : Bool) → (e ≡ true → d ≡ false) → b * level a b k d ≡ cond e a b * level a b k (e || d)
+  level-cost : (e d k : Bool) → (e ≡ true → d ≡ false) → I .b * level I k d ≡ cond e (I .a) (I .b) * level I k (e || d)
   unfolding level
   level-cost true true k h = absurd (clash refl (h refl))
   level-cost true false true h = omega arith
@@ -98,10 +90,10 @@ module _ {a b : ℕ} (pos : 0 < a) (easier : a < b) where
 module _ {I : Instance} {x p group : ℕ → ℕ} {cut : ℕ → Bool} (S : Sound I) (K : Core I x p group cut) where
   -- the level of chore c for agent i
   abbrev lev : ℕ → ℕ → ℕ
-  lev i c = level (I .a) (I .b) (cut c) (ok I i c)
+  lev i c = level I (cut c) (ok I i c)
 
-  price-level : (c : ℕ) → c < I .m → p c ≡ level (I .a) (I .b) (cut c) (dear I c)
-  unfolding kindPrice level
+  price-level : (c : ℕ) → c < I .m → p c ≡ level I (cut c) (dear I c)
+  unfolding kindPrice
   price-level c h = K .priced c h
 
   easy-not-dear : (i c : ℕ) → i < I .n → I .easy i c ≡ true → dear I c ≡ false
@@ -112,7 +104,7 @@ module _ {I : Instance} {x p group : ℕ → ℕ} {cut : ℕ → Bool} (S : Soun
   price-cost : (i c : ℕ) → i < I .n → c < I .m → I .b * p c ≡ cost I i c * lev i c
   unfolding cost ok
   price-cost i c hi hc =
-      rw (price-level c hc) (level-cost (S .positive) (S .easier) (I .easy i c) (dear I c) (cut c) (easy-not-dear i c hi))
+      rw (price-level c hc) (level-cost S (I .easy i c) (dear I c) (cut c) (easy-not-dear i c hi))
 
   cost-positive : (i c : ℕ) → 0 < cost I i c
   unfolding cost
@@ -139,7 +131,7 @@ module _ {I : Instance} {x p group : ℕ → ℕ} {cut : ℕ → Bool} (S : Soun
         index = h .index;
         below = h .below;
         value = rw (not-true (cut (h .index)) (both .0), both .1);
-        above = λ c l. level-bound (S .positive) (S .easier) (cut c) (ok I i c);
+        above = λ c l. level-bound S (cut c) (ok I i c);
       }
 
   top-inside : (i : ℕ) → i < I .n → 0 < group i → 0 < I .m → Top (I .m) (lev i) (I .a * I .b)
@@ -151,18 +143,18 @@ module _ {I : Instance} {x p group : ℕ → ℕ} {cut : ℕ → Bool} (S : Soun
         index = h .index;
         below = h .below;
         value = rw (both .0, both .1);
-        above = λ c l. level-lower (S .positive) (S .easier) (cut c) (ok I i c) (K .groupTakesAll i hi g c l);
+        above = λ c l. level-lower S (cut c) (ok I i c) (K .groupTakesAll i hi g c l);
       }
 
   pub best-outside : (i c : ℕ) → i < I .n → group i ≡ 0 → c < I .m → best I p i c ≡ (not (cut c) && ok I i c)
   best-outside i c hi g hc =
       best-top i c (I .b * I .b) hi hc (top-outside i hi g (omega arith))
-      ∙ level-high (S .positive) (S .easier) (cut c) (ok I i c)
+      ∙ level-high S (cut c) (ok I i c)
 
   pub best-inside : (i c : ℕ) → i < I .n → 0 < group i → c < I .m → best I p i c ≡ (not (cut c) || ok I i c)
   best-inside i c hi g hc =
       best-top i c (I .a * I .b) hi hc (top-inside i hi g (omega arith))
-      ∙ level-middle (S .positive) (S .easier) (cut c) (ok I i c)
+      ∙ level-middle S (cut c) (ok I i c)
 
   pub best-wanted : (i c : ℕ) → i < I .n → c < I .m → best I p i c ≡ wanted I group cut i c
   unfolding wanted
@@ -189,10 +181,10 @@ module _ {I : Instance} {x p group : ℕ → ℕ} {cut : ℕ → Bool} (S : Soun
       not-true (cut c) (and-elim (not (cut c)) (ok I i c) (sym (best-outside i c hi g hc) ∙ b) .0)
 
   pub price-positive : (c : ℕ) → c < I .m → 0 < p c
-  price-positive c h = rw (price-level c h) (level-positive (S .positive) (S .easier) (cut c) (dear I c))
+  price-positive c h = rw (price-level c h) (level-positive S (cut c) (dear I c))
 
   pub price-bound : (c : ℕ) → c < I .m → p c ≤ I .b * I .b
-  price-bound c h = rw (price-level c h) (level-bound (S .positive) (S .easier) (cut c) (dear I c))
+  price-bound c h = rw (price-level c h) (level-bound S (cut c) (dear I c))
 
   none-dear : Hit (I .n) (λ i. ltb 0 (group i)) → (c : ℕ) → c < I .m → cut c ≡ false → dear I c ≡ false
   unfolding ok
@@ -207,29 +199,22 @@ module _ {I : Instance} {x p group : ℕ → ℕ} {cut : ℕ → Bool} (S : Soun
 
   pub none-dearer : Hit (I .n) (λ i. ltb 0 (group i)) → (c : ℕ) → c < I .m → p c ≤ I .a * I .b
   none-dearer h c hc =
-      rw (price-level c hc) (level-lower (S .positive) (S .easier) (cut c) (dear I c) (none-dear h c hc))
+      rw (price-level c hc) (level-lower S (cut c) (dear I c) (none-dear h c hc))
 
   -- a chore that goes to somebody who finds it best leaves the core invariant as it is
   pub core-moved : {y : ℕ → ℕ} {k w u : ℕ} → Moves (I .m) x y k w u → u < I .n → best I p u k ≡ true → Core I y p group cut
   core-moved {y} {k} {u} v hu b =
       record {
-        owner = at (λ c o. o < I .n) hu (K .owner);
+        owner = moves-each v (λ c o. o < I .n) hu (K .owner);
         priced = K .priced;
-        cutInGroup = at (λ c o. cut c ≡ true → 0 < group o) grouped (K .cutInGroup);
-        cutOk = at (λ c o. cut c ≡ true → ok I o c ≡ true) cut-ok (K .cutOk);
-        freeOk = at (λ c o. cut c ≡ false → group o ≡ 0 → ok I o c ≡ true) free-ok (K .freeOk);
+        cutInGroup = moves-each v (λ c o. cut c ≡ true → 0 < group o) grouped (K .cutInGroup);
+        cutOk = moves-each v (λ c o. cut c ≡ true → ok I o c ≡ true) cut-ok (K .cutOk);
+        freeOk = moves-each v (λ c o. cut c ≡ false → group o ≡ 0 → ok I o c ≡ true) free-ok (K .freeOk);
         groupTakesAll = K .groupTakesAll;
         hasFree = K .hasFree;
         hasCut = K .hasCut;
       }
     where
-      -- what holds of each chore and its owner before, and of k and u, holds after
-      at : (P : ℕ → ℕ → Type 0) → P k u → ((c : ℕ) → c < I .m → P c (x c)) → (c : ℕ) → c < I .m → P c (y c)
-      at P new old c h =
-          by-same c k
-          (λ e. rw (e, v .target) new)
-          (λ ne. rw (← v .rest c h ne) (old c h))
-
       grouped : cut k ≡ true → 0 < group u
       grouped e =
           by-zero (group u) (λ g. absurd (clash e (best-uncut u k hu g (v .below) b))) (λ g. g)

@@ -8,17 +8,17 @@ use native.Mathlib.Nat.{le-refl}
 use native.Mathlib.Omega.{arith}
 use lib.Dec.{ltb}
 use borrow.Author.Tests.{lt-ltb}
+use Rattle.finite.specs.Search.{Hit}
+use Rattle.finite.specs.Moves.{Moves}
 use Rattle.finite.proofs.Tests.{clash, not-yes, cond-false}
 use Rattle.finite.proofs.Below.{by-less, by-same}
-use Rattle.finite.proofs.Search.{Hit}
-use Rattle.finite.proofs.Fibres.{Moves}
 use Rattle.model.specs.Instance.{Instance}
 use Rattle.model.specs.Prices.{priceSum, dearest, priceUpToOne}
 use Rattle.model.specs.Step2b.{leastSum, within, due2b}
 use Rattle.algorithm.specs.Kinds.{Sound}
 use Rattle.algorithm.specs.Core.{Core}
 use Rattle.algorithm.specs.Due.{Due}
-use Rattle.algorithm.specs.Phases.{cutPrice, Entitled, Quiet, Loaded, Calm, calm, tense}
+use Rattle.algorithm.specs.Phases.{cutPrice, Entitled, Quiet, Loaded, Calm, calm, one-loaded}
 use Rattle.algorithm.proofs.UpToOne.{up-dearest, up-near, dearest-above, give-sum, take-sum, other-sum, take-up, other-up}
 use Rattle.algorithm.proofs.Best.{uncut-best, best-uncut, one-price, none-dearer}
 use Rattle.algorithm.proofs.Rings.{supplies-intro, within-step, is-due, within-more, least-rises, rings-back, rings-forth}
@@ -92,7 +92,7 @@ module _ {I : Instance} {x p group : ℕ → ℕ} {cut : ℕ → Bool} (S : Soun
 
     move-uncut : Calm I p group cut x → cut k ≡ false
     move-uncut (calm q) = free-uncut K k (d .chore) (rw (d .owned) (quiet-giver q))
-    move-uncut (tense v s l) = best-uncut S K u k (d .receiver) (loaded-receiver l) (d .chore) (d .wants)
+    move-uncut (one-loaded v s l) = best-uncut S K u k (d .receiver) (loaded-receiver l) (d .chore) (d .wants)
 
     module _ {y : ℕ → ℕ} (v : Moves (I .m) x y k w u) where
       -- whoever neither gives nor receives, and was not above the least sum, is not now
@@ -157,7 +157,7 @@ module _ {I : Instance} {x p group : ℕ → ℕ} {cut : ℕ → Bool} (S : Soun
       from-quiet q =
           by-less (leastSum I y p) (priceUpToOne (I .m) y p u)
           (λ a. by-less 0 (group u)
-          (λ g. tense u t (becomes-loaded q g (λ e. omega (arith, take-up v p, least-rises d v)) a))
+          (λ g. one-loaded u t (becomes-loaded q g (λ e. omega (arith, take-up v p, least-rises d v)) a))
           (λ g. calm (quiet-still q (λ h. absurd (omega arith)))))
           (λ low. calm (quiet-still q (λ g. low)))
 
@@ -169,7 +169,7 @@ module _ {I : Instance} {x p group : ℕ → ℕ} {cut : ℕ → Bool} (S : Soun
           gave : priceUpToOne (I .m) y p w ≤ leastSum I y p
           gave =
               let e = loaded-giver l in
-              let z = l .relieved y k u (rw e at v) (move-uncut (tense v′ s l)) in
+              let z = l .relieved y k u (rw e at v) (move-uncut (one-loaded v′ s l)) in
               rw e (omega (arith, least-rises d v))
 
   -- a cut chore never moves in 2b
@@ -178,9 +178,9 @@ module _ {I : Instance} {x p group : ℕ → ℕ} {cut : ℕ → Bool} (S : Soun
 
   pub calm-moved : {y : ℕ → ℕ} {t w u k : ℕ} → Calm I p group cut x → Due I x p t w u k → Moves (I .m) x y k w u → Calm I p group cut y
   calm-moved (calm q) d v = from-quiet d v q
-  calm-moved (tense u t l) d v = calm (from-loaded d v l)
+  calm-moved (one-loaded u t l) d v = calm (from-loaded d v l)
 
   -- when 2b ends, it is quiet
   pub calm-ends : Calm I p group cut x → due2b I x p ≡ false → Quiet I p group cut x
   calm-ends (calm q) no-more = q
-  calm-ends (tense u t l) no-more = absurd (clash (is-due I x p (S .some) t u (omega arith) (l .member) (l .near) (l .loaded)) no-more)
+  calm-ends (one-loaded u t l) no-more = absurd (clash (is-due I x p (S .some) t u (omega arith) (l .member) (l .near) (l .loaded)) no-more)

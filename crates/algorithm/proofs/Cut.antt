@@ -6,14 +6,14 @@ use mathlib.Core.Path.{_≡_, refl, sym, ap, _∙_}
 use native.Mathlib.Nat.{div-eq-of-eq-mul-left}
 use native.Mathlib.Omega.{arith}
 use borrow.Author.Tests.{eqb-true, not-true}
+use Rattle.finite.specs.Search.{Hit}
 use Rattle.finite.proofs.Tests.{by-test, clash, not-yes, and-elim, and-intro, or-left, or-right, or-none, not-on, cond-true, cond-false}
 use Rattle.finite.proofs.Below.{by-less}
-use Rattle.finite.proofs.Search.{Hit}
 use Rattle.model.specs.Instance.{Instance}
 use Rattle.model.specs.Fairness.{owns}
 use Rattle.model.specs.Prices.{best, priceSum, priceUpToOne}
 use Rattle.model.specs.Step2b.{leastSum, reachable, due2b}
-use Rattle.algorithm.specs.Kinds.{Sound, dear, ok, kindPrice}
+use Rattle.algorithm.specs.Kinds.{Sound, dear, ok, level, kindPrice}
 use Rattle.algorithm.specs.Core.{Core}
 use Rattle.algorithm.specs.Phases.{Quiet}
 use Rattle.algorithm.specs.Cuts.{Cuts}
@@ -35,7 +35,7 @@ wider h r = record { index = r .index; below = r .below; passes = h (r .index) (
 
 -- the price of a kind falls exactly
 kind-falls : (I : Instance) (c : ℕ) → kindPrice I false c * I .a ≡ kindPrice I true c * I .b
-unfolding kindPrice
+unfolding kindPrice level
 kind-falls I c = by-test (dear I c) (λ e. rw e (omega arith)) (λ e. rw e (omega arith))
 
 -- an uncut chore of agent i

@@ -9,25 +9,26 @@ use native.Mathlib.Omega.{arith}
 use lib.Dec.{leb, ltb}
 use lib.ListN.{length, getD}
 use borrow.Author.Tests.{lt-ltb, le-leb, eq-eqb}
+use Rattle.finite.specs.Lists.{Picks}
 use Rattle.finite.proofs.Tests.{and-intro}
 use Rattle.finite.proofs.Search.{all-intro}
-use Rattle.finite.proofs.Lists.{Picks}
 use Rattle.model.specs.Instance.{ownerOf, priceOf}
 use Rattle.model.specs.Limits.{maxWeight, maxPrice}
 use Rattle.model.specs.Sheet.{choresOf, difficultWeight, asMarked, asRead}
 use Rattle.model.specs.Fairness.{ownersInRange}
 use Rattle.model.specs.Prices.{best, priceSum, priceUpToOne}
-use Rattle.model.specs.Refusals.{sheetRefusal, ownersRefusal, pricesInRange, pricesRefusal}
+use Rattle.model.specs.Refusals.{_orElse_, sheetRefusal, ownersRefusal, pricesInRange, pricesRefusal}
 use Rattle.model.specs.Replies.{accepted}
 use Rattle.model.specs.Verdicts.{priceCheck}
 use Rattle.sheet.proofs.Refusal.{valid}
 use Rattle.welfare.proofs.AcceptedSheet.{accepted-check}
+use Rattle.welfare.proofs.Reading.{best-same}
 use Rattle.algorithm.specs.Core.{Core}
 use Rattle.algorithm.proofs.Best.{owner-best, price-positive, price-bound}
-use Rattle.algorithm.proofs.Reading.{sheet-sound, best-as-marked}
+use Rattle.algorithm.proofs.Reading.{sheet-sound}
 
 owners-pass : {n m : ℕ} {owners : List ℕ} → Picks n m owners → ownersRefusal n m owners ≡ 0
-unfolding ownersRefusal ownersInRange
+unfolding ownersRefusal ownersInRange _orElse_
 owners-pass {n} {m} {owners} o =
     rw (eq-eqb (length owners) m (o .size), all-intro m (λ c. ltb 0 (getD owners c 0) && leb (getD owners c 0) n) λ c h. and-intro (lt-ltb 0 (getD owners c 0) (o .positive c h)) (le-leb (getD owners c 0) n (o .bounded c h)))
 
@@ -47,7 +48,7 @@ module _ (s owners prices : List ℕ) {group : ℕ → ℕ} {cut : ℕ → Bool}
   -- the core invariant is over the row reading, the check over the marks
   best-marked : (c : ℕ) → c < choresOf s → best (asMarked s) (priceOf prices) (ownerOf owners c) c ≡ true
   unfolding asRead
-  best-marked c h = let S = sheet-sound s passed in best-as-marked s S (priceOf prices) (ownerOf owners c) c h ∙ owner-best S K c h
+  best-marked c h = best-same (valid s passed) (ownerOf owners c) (priceOf prices) c h ∙ owner-best (sheet-sound s passed) K c h
 
   -- the lists of owner numbers and prices get the answer `accepted`
   pub check-accepted : Picks (asRead s .n) (asRead s .m) owners → length prices ≡ asRead s .m → ((i j : ℕ) → i < asRead s .n → j < asRead s .n → priceUpToOne (asRead s .m) (ownerOf owners) (priceOf prices) i ≤ priceSum (asRead s .m) (ownerOf owners) (priceOf prices) j) → priceCheck s owners prices ≡ accepted

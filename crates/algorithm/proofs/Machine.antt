@@ -7,11 +7,11 @@ use native.Mathlib.Nat.{mul-le-mul-right}
 use native.Mathlib.Omega.{arith}
 use lib.Dec.{eqb}
 use borrow.Author.Tests.{ltb-true, ltb-false, eq-eqb, ne-eqb}
-use Rattle.finite.specs.Search.{anyBelow}
+use Rattle.finite.specs.Search.{anyBelow, Hit}
+use Rattle.finite.specs.Moves.{Moves}
 use Rattle.finite.proofs.Tests.{by-test, clash, cond-true, cond-false}
 use Rattle.finite.proofs.Below.{by-less}
-use Rattle.finite.proofs.Search.{Hit, any-elim, any-intro, any-none}
-use Rattle.finite.proofs.Fibres.{Moves}
+use Rattle.finite.proofs.Search.{any-elim, any-intro, any-none}
 use Rattle.model.specs.Instance.{Instance}
 use Rattle.model.specs.Prices.{priceSum, priceUpToOne}
 use Rattle.model.specs.Step2a.{giver2a, receiver2a, due2a, chore2a}

@@ -7,17 +7,20 @@ use mathlib.Core.Bool.{Bool, true, false, cond, not}
 use mathlib.Core.Path.{_≡_, ap, _∙_}
 use lib.Dec.{eqb}
 use Rattle.finite.specs.Sums.{sumTo, sumWhere, countTo}
+use Rattle.finite.specs.Moves.{Moves}
 use Rattle.finite.proofs.Tests.{bool-eq, fails-of, not-yes}
 use Rattle.finite.proofs.Below.{by-less, by-same}
 use Rattle.finite.proofs.Sums.{sum-split, sum-strict, sum-mono, sum-at-most, sum-at-least}
 use Rattle.finite.proofs.Where.{where-not, where-at, where-mono, where-le-sum}
 use Rattle.finite.proofs.Counts.{count-le, count-all, count-none, count-mono, count-strict, count-cong, count-point}
 use Rattle.finite.proofs.Extremes.{low-under}
-use Rattle.finite.proofs.Fibres.{Moves, fibres}
+use Rattle.finite.proofs.Moves.{moves-each}
+use Rattle.model.specs.Limits.{maxAgents, maxWeight}
 use Rattle.model.specs.Instance.{Instance}
-use Rattle.model.specs.Fairness.{owns, total}
+use Rattle.model.specs.Fairness.{owns}
 use Rattle.model.specs.Prices.{priceSum}
 use Rattle.model.specs.Step2b.{leastSum, ofLeastSum, within}
+use Rattle.welfare.proofs.Accepted.{price-of-all}
 use Rattle.algorithm.specs.Due.{Due}
 use Rattle.algorithm.specs.Measure.{nearness, spread, spreadTop, fall, measure2b, measureTop}
 use Rattle.algorithm.proofs.UpToOne.{take-sum}
@@ -69,22 +72,17 @@ module _ (I : Instance) (x p : ℕ → ℕ) where
       omega (arith, mul-le-mul f (le-refl (spreadTop I + 1)), spread-top)
 
   module _ (owners : (c : ℕ) → c < I .m → x c < I .n) where
-    -- all that is held is all there is
-    pub sums-total : sumTo (I .n) (priceSum (I .m) x p) ≡ sumTo (I .m) p
-    unfolding total owns
-    sums-total = fibres (I .n) (I .m) x p owners
-
     -- the least sum, n times, is at most the sum of all prices
     pub least-total : I .n * leastSum I x p ≤ sumTo (I .m) p
     unfolding leastSum
-    least-total = rw sums-total at (sum-at-least (I .n) (leastSum I x p) (λ i h. low-under (priceSum (I .m) x p) i h))
+    least-total = rw (price-of-all (I .n) (I .m) x p owners) at (sum-at-least (I .n) (leastSum I x p) (λ i h. low-under (priceSum (I .m) x p) i h))
 
     pub fall-total : fall I x p + I .n * leastSum I x p ≡ sumTo (I .m) p + countTo (I .n) (ofLeastSum I x p)
     unfolding fall
     fall-total = omega (arith, least-total)
 
 -- the bound, in numbers
-pub measureTop-small : (I : Instance) → I .n ≤ 32 → I .m ≤ 4000 → I .b ≤ 1000 → measureTop I < 2 ^ 54
+pub measureTop-small : (I : Instance) → I .n ≤ maxAgents → I .m ≤ 4000 → I .b ≤ maxWeight → measureTop I < 2 ^ 54
 unfolding measureTop spreadTop
 measureTop-small I n m b =
     let s = mul-le-mul m (mul-le-mul n n) in
@@ -98,9 +96,8 @@ module _ {I : Instance} {x p : ℕ → ℕ} {t w u k : ℕ} (d : Due I x p t w u
   some-agent : 0 < I .n
   some-agent = omega (arith, d .giver)
 
-  pub moved-owners : ((c : ℕ) → c < I .m → x c < I .n) → (c : ℕ) → c < I .m → y c < I .n
-  moved-owners owners c h =
-      by-same c k (λ e. rw (e, v .target) (d .receiver)) (λ ne. rw (v .rest c h ne) at (owners c h))
+  moved-owners : ((c : ℕ) → c < I .m → x c < I .n) → (c : ℕ) → c < I .m → y c < I .n
+  moved-owners = moves-each v (λ c o. o < I .n) (d .receiver)
 
   -- the receiver had the least sum: that grows, or one agent fewer has it
   module _ (owners : (c : ℕ) → c < I .m → x c < I .n) (positive : 0 < p k) (near : priceSum (I .m) x p u ≡ leastSum I x p) where

@@ -1,24 +1,20 @@
--- The opening: what the argument needs of one, that this brings the core invariant, and that Algorithm 1's opening has it.
+-- The opening: that what the argument needs of one brings the core invariant, and that Algorithm 1's opening has it.
 -- Assumes nothing.
 use Prim.Native.Nat.{ℕ, _+_, _*_, _<_}
 use mathlib.Core.Bool.{Bool, true, false, not, _&&_}
 use mathlib.Core.Path.{_≡_, sym, _∙_}
 use native.Mathlib.Omega.{arith}
 use lib.ListN.{length, length-replicate, getD-replicate}
-use Rattle.finite.specs.Search.{anyBelow}
+use Rattle.finite.specs.Search.{anyBelow, Hit}
+use Rattle.finite.specs.Lists.{Picks}
 use Rattle.finite.proofs.Tests.{by-test, clash, and-intro, or-left, or-right, not-on, cond-not}
-use Rattle.finite.proofs.Search.{Hit, any-elim, first-some, first-passes}
-use Rattle.finite.proofs.Lists.{Picks, tab-length, tab-at}
+use Rattle.finite.proofs.Search.{any-elim, first-some, first-passes}
+use Rattle.finite.proofs.Lists.{tab-length, tab-at}
 use Rattle.model.specs.Instance.{Instance, ownerOf, priceOf}
 use Rattle.model.specs.Algorithm.{openingOwner, openingPrice, opening, owner, price, group, isEntitled}
-use Rattle.algorithm.specs.Kinds.{Sound, dear, ok, kindPrice}
+use Rattle.algorithm.specs.Kinds.{Sound, dear, ok, level, kindPrice}
 use Rattle.algorithm.specs.Core.{Core}
-
--- All that is used of an opening: a chore that somebody finds easy is with somebody who finds it easy.
-pub record Opened (I : Instance) (x p : ℕ → ℕ) : Type 0 where
-  pub owned : (c : ℕ) → c < I .m → x c < I .n
-  pub priced : (c : ℕ) → c < I .m → p c ≡ openingPrice I c
-  pub easyWhereCan : (c : ℕ) → c < I .m → anyBelow (I .n) (λ i. I .easy i c) ≡ true → I .easy (x c) c ≡ true
+use Rattle.algorithm.specs.Opened.{Opened}
 
 easy-ok : (I : Instance) (i c : ℕ) → I .easy i c ≡ true → ok I i c ≡ true
 unfolding ok
@@ -33,7 +29,7 @@ module _ {I : Instance} {x p : ℕ → ℕ} (o : Opened I x p) where
       (λ e. or-right (I .easy (x c) c) (not-on e))
 
   opened-price : (c : ℕ) → c < I .m → p c ≡ kindPrice I false c
-  unfolding openingPrice kindPrice dear
+  unfolding openingPrice kindPrice level dear
   opened-price c h = o .priced c h ∙ sym (cond-not (anyBelow (I .n) (λ i. I .easy i c)) (I .b * I .b) (I .a * I .b))
 
   -- with no groups and no entitled chores, an opening has the core invariant

@@ -8,11 +8,11 @@ use mathlib.Core.Logic.{_↔_}
 use mathlib.Core.Path.{_≡_, sym, ap, subst, _∙_}
 use borrow.Author.Tests.{ltb-true, ltb-false, lt-ltb, eqb-true, eq-eqb, not-true}
 use Rattle.finite.specs.Search.{anyBelow, firstBelow, First}
+use Rattle.finite.specs.Moves.{Moves}
 use Rattle.finite.proofs.Tests.{by-test, clash, and-elim, and-intro, and-rest, fails-of, not-yes, not-on}
 use Rattle.finite.proofs.Below.{by-less, by-same}
 use Rattle.finite.proofs.Search.{any-intro, any-elim, any-none, found, first-some}
 use Rattle.finite.proofs.Extremes.{Low, low-attained}
-use Rattle.finite.proofs.Fibres.{Moves}
 use Rattle.finite.proofs.Reach.{reach-zero, reach-kept, reach-step, reach-cases, reach-mono, reach-link}
 use Rattle.model.specs.Instance.{Instance}
 use Rattle.model.specs.Fairness.{owns}

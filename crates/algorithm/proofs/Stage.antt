@@ -8,12 +8,12 @@ use native.Mathlib.Nat.{le-refl, le-of-eq}
 use native.Mathlib.Omega.{arith}
 use lib.Dec.{eqb, ltb}
 use borrow.Author.Tests.{ltb-true, ltb-false, lt-ltb, eqb-true, eq-eqb, ne-eqb, not-true}
+use Rattle.finite.specs.Moves.{Moves}
 use Rattle.finite.proofs.Tests.{cond-true, and-elim, and-intro, and-rest, not-no, not-on, cond-le}
 use Rattle.finite.proofs.Below.{by-less, by-same}
 use Rattle.finite.proofs.Search.{found, first-some}
 use Rattle.finite.proofs.Where.{where-le}
 use Rattle.finite.proofs.Counts.{count-le, count-change}
-use Rattle.finite.proofs.Fibres.{Moves}
 use Rattle.finite.proofs.Chosen.{Chosen, chosen-found, smaller, greater, smallest-le, greatest-ge}
 use Rattle.finite.proofs.Running.{smallest-some, greatest-some}
 use Rattle.model.specs.Instance.{Instance}

@@ -1,32 +1,26 @@
 -- What a move and a cut do to a state of lists, in the terms of owners, prices, groups and entitled chores.
 -- Assumes nothing.
-use Prim.Native.Nat.{ℕ, _+_, _-_, _<_}
+use Prim.Native.Nat.{ℕ, _+_, _<_}
 use mathlib.Core.Bool.{Bool, true, false, cond, _||_}
-use mathlib.Core.Path.{_≡_, refl, sym, ap, _∙_}
+use mathlib.Core.Path.{_≡_, refl, ap, _∙_}
 use native.Mathlib.Omega.{arith}
 use lib.Dec.{eqb}
 use lib.ListN.{getD, length-set}
 use lib.Seq.{getD-set-same, getD-set-other}
+use Rattle.finite.specs.Moves.{Moves}
 use Rattle.finite.proofs.Below.{by-same}
-use Rattle.finite.proofs.Fibres.{Moves}
 use Rattle.finite.proofs.Lists.{tab-length, tab-at}
-use Rattle.model.specs.Instance.{Instance, ownerOf, priceOf}
+use Rattle.model.specs.Instance.{Instance, priceOf}
 use Rattle.model.specs.Algorithm.{State, owner, price, group, isEntitled, handed, inNewGroup, afterCut}
+use Rattle.welfare.proofs.Moves.{set-moves}
 use Rattle.algorithm.specs.Reached.{Shaped}
 use Rattle.algorithm.specs.Cuts.{Cuts}
 
 module _ {I : Instance} {s : State} (L : Shaped I s) where
   -- chore k goes from w to u
   pub handed-moves : (k w u : ℕ) → k < I .m → owner I s k ≡ w → (w ≡ u → ⊥) → Moves (I .m) (owner I s) (owner I (handed I s k u)) k w u
-  unfolding handed ownerOf
-  handed-moves k w u h o ne =
-      record {
-        below = h;
-        source = o;
-        target = omega (arith, getD-set-same (s .owners) k (u + 1) 0 (omega (arith, L .owners)));
-        apart = ne;
-        rest = λ c l d. ap (λ v. v - 1) (sym (getD-set-other (s .owners) k c (u + 1) 0 d));
-      }
+  unfolding handed
+  handed-moves k w u h o ne = set-moves (s .owners) k u (omega (arith, L .owners)) h o ne
 
   pub handed-shaped : (k u : ℕ) → k < I .m → Shaped I (handed I s k u)
   unfolding handed

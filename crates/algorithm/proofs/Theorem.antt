@@ -6,17 +6,17 @@ use mathlib.Core.List.{List}
 use mathlib.Core.Logic.{_⊎_, inl, inr}
 use mathlib.Core.Path.{_≡_, subst}
 use native.Mathlib.Omega.{arith}
+use Rattle.finite.specs.Lists.{Picks}
 use Rattle.finite.proofs.Tests.{by-test}
-use Rattle.finite.proofs.Lists.{Picks}
 use Rattle.model.specs.Instance.{Instance, ownerOf}
 use Rattle.model.specs.Sheet.{asMarked, asRead}
 use Rattle.model.specs.Algorithm.{State, Ends}
 use Rattle.model.specs.Refusals.{sheetRefusal}
 use Rattle.model.specs.Promises.{Demand3}
 use Rattle.model.proofs.Unique.{unique}
-use Rattle.welfare.proofs.Allocations.{picks-allocation}
+use Rattle.model.proofs.Allocations.{picks-allocation}
 use Rattle.welfare.proofs.AcceptedSheet.{accepted-fair}
-use Rattle.algorithm.specs.Kinds.{dear, kindPrice}
+use Rattle.algorithm.specs.Kinds.{dear, level, kindPrice}
 use Rattle.algorithm.specs.Core.{Core}
 use Rattle.algorithm.specs.Reached.{moveTop, Reached}
 use Rattle.algorithm.specs.Theorem.{Theorem}
@@ -38,7 +38,7 @@ picks R =
 
 -- the prices of a reached state are of three kinds
 three : {I : Instance} {x p group : ℕ → ℕ} {cut : ℕ → Bool} → Core I x p group cut → (c : ℕ) → c < I .m → (p c ≡ I .a * I .a) ⊎ ((p c ≡ I .a * I .b) ⊎ (p c ≡ I .b * I .b))
-unfolding kindPrice
+unfolding kindPrice level
 three {I} {cut} K c h =
     let e = K .priced c h in
     by-test (cut c)
@@ -60,6 +60,7 @@ theorem s valid =
       demand3 =
           record {
             ends = record { steps = E .count; ends = E .ends };
+            only = λ y F. unique (asRead s) (F .steps) (E .count) y x (F .ends) (E .ends);
             cuts = fewer-cuts R;
             neverLacks = never-lacking S O;
             allocation = picks-allocation (asMarked s) (x .owners) (picks R);

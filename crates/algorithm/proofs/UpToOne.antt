@@ -5,12 +5,13 @@ use mathlib.Core.Path.{_≡_, refl, sym, ap, _∙_}
 use native.Mathlib.Nat.{le-refl}
 use native.Mathlib.Omega.{arith}
 use lib.Dec.{eqb}
-use borrow.Author.Tests.{eq-eqb, ne-eqb, eqb-true}
+use borrow.Author.Tests.{eq-eqb, eqb-true}
+use Rattle.finite.specs.Search.{Hit}
+use Rattle.finite.specs.Moves.{Moves}
 use Rattle.finite.proofs.Below.{by-same}
-use Rattle.finite.proofs.Search.{Hit}
 use Rattle.finite.proofs.Where.{where-point, where-positive, where-cong, where-scale-eq}
 use Rattle.finite.proofs.Extremes.{peak-above, peak-at-most, peak-cong, peak-scale}
-use Rattle.finite.proofs.Fibres.{Moves, moves-from, moves-to, moves-other}
+use Rattle.finite.proofs.Moves.{moves-same, moves-from, moves-to, moves-other}
 use Rattle.model.specs.Fairness.{owns, total}
 use Rattle.model.specs.Prices.{priceSum, dearest, priceUpToOne}
 
@@ -102,13 +103,6 @@ module _ {m : ℕ} {x y : ℕ → ℕ} {k w u : ℕ} (v : Moves m x y k w u) (p 
       (λ e. rw e (omega arith))
       (λ ne. omega (arith, dearest-above m y p w c l (sym (v .rest c l ne) ∙ o)))
 
-  take-dearest : dearest m y p u ≤ dearest m x p u + p k
-  take-dearest =
-      dearest-under m y p u (dearest m x p u + p k) λ c l o.
-      by-same c k
-      (λ e. rw e (omega arith))
-      (λ ne. omega (arith, dearest-above m x p u c l (v .rest c l ne ∙ o)))
-
   pub give-up : priceUpToOne m y p w ≤ priceUpToOne m x p w
   give-up = omega (arith, up-dearest m x p w, up-dearest m y p w, give-sum, give-dearest)
 
@@ -127,13 +121,7 @@ module _ {m : ℕ} {x y : ℕ → ℕ} {k w u : ℕ} (v : Moves m x y k w u) (p 
 
   other-dearest : (i : ℕ) → (i ≡ w → ⊥) → (i ≡ u → ⊥) → dearest m y p i ≡ dearest m x p i
   unfolding dearest owns
-  other-dearest i a b = peak-cong m same (λ c l o. refl)
-    where
-      same : (c : ℕ) → c < m → eqb (y c) i ≡ eqb (x c) i
-      same c l =
-          by-same c k
-          (λ e. rw e (ne-eqb (y k) i (λ q. b (sym q ∙ v .target)) ∙ sym (ne-eqb (x k) i (λ q. a (sym q ∙ v .source)))))
-          (λ ne. ap (λ o. eqb o i) (sym (v .rest c l ne)))
+  other-dearest i a b = peak-cong m (λ c l. sym (moves-same v i a b c l)) (λ c l o. refl)
 
   pub other-up : (i : ℕ) → (i ≡ w → ⊥) → (i ≡ u → ⊥) → priceUpToOne m y p i ≡ priceUpToOne m x p i
   other-up i a b = omega (arith, up-dearest m x p i, up-dearest m y p i, other-sum i a b, other-dearest i a b)

@@ -3,7 +3,7 @@
 use Prim.Native.Nat.{ℕ, _<_}
 use mathlib.Core.Bool.{Bool, true, false, not, _&&_}
 use mathlib.Core.Path.{_≡_}
-use Rattle.finite.proofs.Search.{Hit}
+use Rattle.finite.specs.Search.{Hit}
 use Rattle.model.specs.Instance.{Instance}
 use Rattle.algorithm.specs.Kinds.{ok, kindPrice}
 

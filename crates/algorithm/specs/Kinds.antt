@@ -2,8 +2,7 @@
 use Prim.Native.Nat.{ℕ, _*_, _<_}
 use mathlib.Core.Bool.{Bool, cond, not, _&&_, _||_}
 use lib.Dec.{eqb}
-use Rattle.finite.specs.Search.{anyBelow}
-use Rattle.finite.proofs.Search.{Hit}
+use Rattle.finite.specs.Search.{anyBelow, Hit}
 use Rattle.model.specs.Instance.{Instance}
 
 -- What the argument needs of an instance. `likes` is what the row reading is for.
@@ -21,10 +20,14 @@ dear I c = not (anyBelow (I .n) (λ i. I .easy i c))
 unfoldable pub ok : Instance → ℕ → ℕ → Bool
 ok I i c = I .easy i c || dear I c
 
+-- What a chore is priced by, cut or not: its price, with `dear` for `good`; b times its price per unit of cost for an agent, with `ok`.
+unfoldable pub level : Instance → Bool → Bool → ℕ
+level I isCut good =
+    cond isCut (cond good (I .a * I .b) (I .a * I .a)) (cond good (I .b * I .b) (I .a * I .b))
+
 -- the price of chore c, cut or not
 unfoldable pub kindPrice : Instance → Bool → ℕ → ℕ
-kindPrice I isCut c =
-    cond isCut (cond (dear I c) (I .a * I .b) (I .a * I .a)) (cond (dear I c) (I .b * I .b) (I .a * I .b))
+kindPrice I isCut c = level I isCut (dear I c)
 
 -- what `best` comes to while the core invariant holds: from group, cut and kind alone
 unfoldable pub wanted : Instance → (ℕ → ℕ) → (ℕ → Bool) → ℕ → ℕ → Bool

@@ -6,4 +6,5 @@ pub mod Stages
 pub mod Cuts
 pub mod Measure
 pub mod Reached
+pub mod Opened
 pub mod Theorem

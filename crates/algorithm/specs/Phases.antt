@@ -3,8 +3,8 @@ use Prim.Native.Nat.{ℕ, _*_, _<_, _≤_}
 use mathlib.Core.Bool.{Bool, true, false, cond}
 use mathlib.Core.Logic.{_⊎_}
 use mathlib.Core.Path.{_≡_}
-use Rattle.finite.proofs.Fibres.{Moves}
-use Rattle.finite.proofs.Search.{Hit}
+use Rattle.finite.specs.Search.{Hit}
+use Rattle.finite.specs.Moves.{Moves}
 use Rattle.model.specs.Instance.{Instance}
 use Rattle.model.specs.Prices.{priceSum, priceUpToOne}
 use Rattle.model.specs.Step2b.{leastSum, within}
@@ -58,4 +58,4 @@ module _ (I : Instance) (p group : ℕ → ℕ) (cut : ℕ → Bool) where
 
   pub data Calm (x : ℕ → ℕ) : Type 0 where
     calm : Quiet x → Calm x
-    tense : (u t : ℕ) → Loaded x u t → Calm x
+    one-loaded : (u t : ℕ) → Loaded x u t → Calm x

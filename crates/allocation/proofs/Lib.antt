@@ -1,3 +1,4 @@
 pub mod Running
 pub mod Sharing
 pub mod Accepting
+pub mod Final

@@ -6,6 +6,7 @@ use mathlib.Core.Path.{_≡_, refl, ap, _∙_}
 use native.Mathlib.Nat.{mul-le-mul}
 use native.Mathlib.Omega.{arith}
 use lib.ListN.{length}
+use Rattle.model.specs.Limits.{maxAgents, maxWeight}
 use Rattle.model.specs.Instance.{Instance}
 use Rattle.model.specs.Sheet.{asRead}
 use Rattle.model.specs.Algorithm.{State, busy, done, step, next, after, Ends}
@@ -23,15 +24,15 @@ use Rattle.allocation.specs.Runs.{Running, Kit}
 use Rattle.steps.proofs.Ready.{reached-ready}
 
 -- the bound for the moves of a run, in numbers
-pub move-top-small : (I : Instance) → I .n ≤ 32 → I .m ≤ 4000 → I .b ≤ 1000 → moveTop I < 2 ^ 60
+pub move-top-small : (I : Instance) → I .n ≤ maxAgents → I .m ≤ 4000 → I .b ≤ maxWeight → moveTop I < 2 ^ 60
 unfolding moveTop roundTop
 move-top-small I hn hm hb =
     let small = measureTop-small I hn hm hb in
-    let n-small : I .n + 1 ≤ 33 = omega arith in
+    let n-small : I .n + 1 ≤ maxAgents + 1 = omega arith in
     let m-small : I .m + 1 ≤ 4001 = omega arith in
-    let cells : (I .n + 1) * (I .m + 1) ≤ 33 * 4001 = mul-le-mul n-small m-small in
-    let round : measureTop I + (I .n + 1) * (I .m + 1) ≤ 2 ^ 54 + 33 * 4001 = omega (arith, small, cells) in
-    let rounds : I .n * (measureTop I + (I .n + 1) * (I .m + 1)) ≤ 32 * (2 ^ 54 + 33 * 4001) = mul-le-mul hn round in
+    let cells : (I .n + 1) * (I .m + 1) ≤ (maxAgents + 1) * 4001 = mul-le-mul n-small m-small in
+    let round : measureTop I + (I .n + 1) * (I .m + 1) ≤ 2 ^ 54 + (maxAgents + 1) * 4001 = omega (arith, small, cells) in
+    let rounds : I .n * (measureTop I + (I .n + 1) * (I .m + 1)) ≤ maxAgents * (2 ^ 54 + (maxAgents + 1) * 4001) = mul-le-mul hn round in
     omega (arith, small, rounds)
 
 module _ {s : List ℕ} (v : Valid s) {owners prices groups entitled : List ℕ} {moves cuts stage : ℕ} (R : Running s owners prices groups entitled moves cuts stage) where
@@ -47,7 +48,7 @@ module _ {s : List ℕ} (v : Valid s) {owners prices groups entitled : List ℕ}
   moves-fit =
       omega (arith, state-reached .budget, move-top-small (asRead s) (v .agentsFit) (omega (arith, v .choresFit)) (v .weightFits))
 
-  pub cuts-fit : cuts < 32
+  pub cuts-fit : cuts < maxAgents
   unfolding asRead
   cuts-fit = omega (arith, fewer-cuts state-reached, v .agentsFit)
 

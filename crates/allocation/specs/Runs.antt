@@ -3,6 +3,7 @@ use Prim.Native.Nat.{ℕ}
 use mathlib.Core.List.{List}
 use mathlib.Core.Path.{_≡_}
 use lib.ListN.{length}
+use Rattle.model.specs.Limits.{maxAgents}
 use Rattle.model.specs.Sheet.{asRead}
 use Rattle.model.specs.Algorithm.{busy, after, Ends}
 use Rattle.sheet.specs.Valid.{Valid}
@@ -17,8 +18,8 @@ pub record Running (s owners prices groups entitled : List ℕ) (moves cuts stag
 pub record Kit (s likes sums ups : List ℕ) : Type 0 where
   pub valid : Valid s
   pub liking : Liked (asRead s) likes
-  pub sumsSized : length sums ≡ 32
-  pub upsSized : length ups ≡ 32
+  pub sumsSized : length sums ≡ maxAgents
+  pub upsSized : length ups ≡ maxAgents
 
 -- the run has ended with these lists and counters
 pub record RunEnds (s owners prices groups entitled : List ℕ) (moves cuts : ℕ) : Type 0 where

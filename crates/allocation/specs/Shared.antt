@@ -3,6 +3,7 @@ use Prim.Native.Nat.{ℕ}
 use mathlib.Core.List.{List}
 use mathlib.Core.Path.{_≡_}
 use lib.ListN.{length, replicate}
+use Rattle.model.specs.Limits.{maxAgents}
 use Rattle.model.specs.Sheet.{agentsOf, choresOf}
 use Rattle.sheet.specs.Valid.{Valid}
 use Rattle.allocation.specs.Runs.{RunEnds}
@@ -17,8 +18,8 @@ pub record Working (s groups entitled likes sums ups : List ℕ) : Type 0 where
   pub noGroups : groups ≡ replicate (agentsOf s) 0
   pub noneEntitled : entitled ≡ replicate (choresOf s) 0
   pub likesSized : length likes ≡ choresOf s
-  pub sumsSized : length sums ≡ 32
-  pub upsSized : length ups ≡ 32
+  pub sumsSized : length sums ≡ maxAgents
+  pub upsSized : length ups ≡ maxAgents
 
 -- the run has ended with these owners, prices and counters; its groups and entitled marks stay inside
 pub record Shared (s owners prices : List ℕ) (moves cuts : ℕ) : Type 0 where

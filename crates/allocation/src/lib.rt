@@ -11,6 +11,7 @@ mod run;
 use crate::run::Counts;
 use crate::run::run;
 use market::opening::open;
+use sheet::or_else;
 
 // Each working list is made in a function of its own, so that its entries are one value where it is used.
 fn no_groups() -> [u8; model::MAX_AGENTS]
@@ -90,15 +91,9 @@ fn allocate_refusal(sheet: &[u8], owners: usize, prices: usize, scratch: usize) 
         return of_sheet;
     }
     let m = sheet::chores(sheet);
-    let of_owners = sheet::lent_refusal(m, owners);
-    if of_owners != 0 {
-        return of_owners;
-    }
-    let of_prices = sheet::lent_refusal(m, prices);
-    if of_prices != 0 {
-        return of_prices;
-    }
-    sheet::lent_refusal(model::SCRATCH_SIZE, scratch)
+    let refusal = sheet::lent_refusal(m, owners);
+    let refusal = or_else(refusal, sheet::lent_refusal(m, prices));
+    or_else(refusal, sheet::lent_refusal(model::SCRATCH_SIZE, scratch))
 }
 
 // A book clears its scratch by this too, before its first sheet.

@@ -1,29 +1,27 @@
 -- For callers of `allocate_book`: what the answer for one sheet says, and where that sheet's owners and prices lie in the long lists.
 -- Assumes nothing.
-use Prim.Native.Nat.{ℕ, zero, suc, _+_, _*_, _≤_, _<_}
-use mathlib.Core.Bool.{Bool, true, false, cond, not}
+use Prim.Native.Nat.{ℕ, zero, suc, _+_, _≤_, _<_}
+use mathlib.Core.Bool.{true, false, cond}
 use mathlib.Core.List.{List, [], _++_, append-assoc}
-use mathlib.Core.Path.{_≡_, sym, ap, _∙_}
+use mathlib.Core.Path.{_≡_, sym, _∙_}
 use native.Mathlib.Nat.{le-refl}
 use native.Mathlib.Numerals.{add-one}
 use native.Mathlib.Omega.{arith}
-use lib.Dec.{eqb, ltb}
-use lib.ListN.{length, take, drop, length-append, List·getD-eq-default}
+use lib.Dec.{ltb}
+use lib.ListN.{length, take, drop, length-append}
 use lib.Seq.{take-at, drop-at}
 use borrow.Author.Tests.{lt-ltb, ltb-true, eqb-true}
 use Rattle.finite.proofs.Tests.{by-test}
-use Rattle.finite.proofs.Below.{none-below, by-top, by-less, by-same}
-use Rattle.model.specs.declared.SheetEntry.{SheetEntry}
+use Rattle.finite.proofs.Below.{none-below, by-top, by-same}
 use Rattle.model.specs.declared.BookResult.{BookResult}
-use Rattle.model.specs.Limits.{maxChores, scratchSize, bookEntries}
-use Rattle.model.specs.Sheet.{agentsOf, choresOf, easyWeight, difficultWeight, sheetLength, asRead}
+use Rattle.model.specs.Limits.{scratchSize, bookEntries}
+use Rattle.model.specs.Sheet.{choresOf, asRead}
 use Rattle.model.specs.Contents.{sheetCount, sheetOf}
 use Rattle.model.specs.Algorithm.{State}
 use Rattle.model.specs.Refusals.{sheetRefusal, contentsRefusal, bookRefusal}
-use Rattle.model.specs.Replies.{refused, sharedAt, sheetReply}
+use Rattle.model.specs.Replies.{refused, sharedAt, absent}
 use Rattle.model.specs.Book.{ownRefusal, takesSheet, entriesOf, firstEntry, sheetAnswer, stretches, longList}
-use Rattle.model.specs.Promises.{entryAt, BookSharedOut, BookAllocated}
-use Rattle.sheet.specs.Parts.{agentsFault, weightsFault, marksFault}
+use Rattle.model.specs.Promises.{BookSharedOut, BookAllocated}
 use Rattle.sheet.specs.Valid.{Valid}
 use Rattle.sheet.proofs.Refusal.{valid}
 use Rattle.sheet.proofs.OrElse.{or-else-next, or-else-first, or-else-none, or-else-zero}
@@ -59,6 +57,15 @@ module _ (book : List ℕ) (finals : ℕ → State) (j : ℕ) where
       record { below = ltb-true _ _ l; takes = t; movesAre = cc; cutsAre = cc; firstIs = cc })
       (λ t. let a = rw (l, t) at e in let z : _≡_ {A = ℕ} 0 1 = cc in absurd (omega arith)))
       (λ l. let a = rw l at e in let z : _≡_ {A = ℕ} 0 1 = cc in absurd (omega arith))
+
+  -- a sheet of the book is answered
+  pub never-absent : j < sheetCount book → absent ≡ sheetAnswer book finals j → ⊥
+  unfolding sheetAnswer
+  never-absent l e =
+      let within = lt-ltb _ _ l in
+      by-test (takesSheet book j)
+      (λ t. let a = rw (within, t) at e in let z : _≡_ {A = ℕ} 0 1 = cc in omega arith)
+      (λ t. let a = rw (within, t) at e in let z : _≡_ {A = ℕ} 0 1 = cc in omega arith)
 
   pub refused-answer : {number : ℕ} → j < sheetCount book → refused number ≡ sheetAnswer book finals j → TurnsDown book j number
   unfolding sheetAnswer
@@ -132,32 +139,8 @@ contents-decide book owners prices scratch o p c =
     (λ z. or-else-next _ z ∙ or-else-none (lent-ok o) (or-else-none (lent-ok p) (lent-ok c)) ∙ sym z)
     (λ h. or-else-first _ h)
 
--- no sheet's own number is the 9 of a sheet that the book does not have
-low : (a b c d e f : Bool) → cond a 5 (cond b 1 (cond c 2 (cond d 3 (cond e 5 (cond f 4 0))))) < 9
-low true b c d e f = omega arith
-low false true c d e f = omega arith
-low false false true d e f = omega arith
-low false false false true e f = omega arith
-low false false false false true f = omega arith
-low false false false false false true = omega arith
-low false false false false false false = omega arith
-
-own-low : (s : List ℕ) → sheetRefusal s < 9
-unfolding sheetRefusal
-own-low s =
-    low (ltb (length s) 6) (agentsFault (agentsOf s)) (ltb maxChores (choresOf s)) (weightsFault (easyWeight s) (difficultWeight s)) (not (eqb (length s) (sheetLength s))) (marksFault s (agentsOf s * choresOf s))
-
 -- what a book that is not refused leaves for the sheet of an answer
 module _ {book owners prices scratch owners′ prices′ scratch′ : List ℕ} {r : BookResult} (S : BookSharedOut book owners prices scratch owners′ prices′ scratch′ r) where
-  -- each sheet has its entry
-  pub entry-there : (j : ℕ) → j < sheetCount book → j < length (r .sheets)
-  unfolding entryAt ownRefusal
-  entry-there j l =
-      by-less j (length (r .sheets)) (λ m. m) λ m.
-      let none : entryAt r j ≡ refused 9 = ap (λ (x : SheetEntry). sheetReply (x .result)) (List·getD-eq-default (r .sheets) _ m) in
-      let nine = refused-answer book (S .finals) j l (sym none ∙ S .answers j) .numberIs in
-      absurd (omega (arith, nine, own-low (sheetOf book j)))
-
   final-shaped : (j : ℕ) → j < sheetCount book → takesSheet book j ≡ true → Shaped (asRead (sheetOf book j)) (S .finals j)
   final-shaped j l t = ended-shaped (taken-valid book j t) (S .demand3 j l t .ends)
 

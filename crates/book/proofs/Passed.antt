@@ -19,15 +19,17 @@ use Rattle.model.specs.Limits.{maxChores, maxSheets, bookEntries}
 use Rattle.model.specs.Contents.{sheetCount, sheetOf}
 use Rattle.model.specs.Algorithm.{State}
 use Rattle.model.specs.Refusals.{sheetRefusal}
-use Rattle.model.specs.Replies.{refused, sheetReply}
+use Rattle.model.specs.Replies.{absent, sheetReply, replyAt}
 use Rattle.model.specs.Book.{ownRefusal, takesSheet, entriesOf, firstEntry, sheetAnswer, longList, tallyOf}
 use Rattle.model.specs.Promises.{entryAt, BookSharedOut}
 use Rattle.sheet.proofs.Refusal.{valid}
-use Rattle.book.specs.Said.{placed, movesIn, cutsIn}
-use Rattle.book.specs.Finals.{accepts, finalOf, finalsOf, answerOf}
-use Rattle.book.specs.Steps.{noEntries, Fitting, Counted, Answered, Taken, Room, RestShared, Fine}
-use Rattle.book.specs.Passed.{replyAt, told, counts, longAfter, Passed}
-use Rattle.book.proofs.Finals.{accepted, final-demand3, owners-long, prices-long, few-moves, few-cuts}
+use Rattle.allocation.specs.Final.{accepts, finalOf}
+use Rattle.allocation.proofs.Final.{accepted, final-demand3, owners-long, prices-long, few-moves, few-cuts}
+use Rattle.tally.specs.Counting.{movesIn, cutsIn, Fitting, Counted}
+use Rattle.book.specs.Said.{placed}
+use Rattle.book.specs.Finals.{finalsOf, answerOf}
+use Rattle.book.specs.Steps.{noEntries, Answered, Taken, Room, RestShared, Fine}
+use Rattle.book.specs.Passed.{told, counts, longAfter, Passed}
 use Rattle.book.proofs.Results.{none-at, reply-new, reply-kept, Parts, parts}
 use Rattle.book.proofs.Stretches.{entries-are, first-zero, first-next, first-few, long-zero, long-kept, long-next}
 
@@ -115,11 +117,11 @@ module _ (book : List ℕ) where
             unfolding told
             told-now = E ∙ answer-parts .place first ∙ rw (P .firstFree)
 
-            replies : (i : ℕ) → replyAt (set sheets j new) i ≡ cond (ltb i (j + 1)) (told book i) (refused 9)
+            replies : (i : ℕ) → replyAt (set sheets j new) i ≡ cond (ltb i (j + 1)) (told book i) absent
             replies i =
                 by-same i j
                 (λ e. rw (e, lt-ltb j (j + 1) (omega arith)) (reply-new sheets j new (omega (arith, P .size, F .fits .sheetsFit)) ∙ told-now))
-                (λ ne. reply-kept sheets j new i ne ∙ P .answers i ∙ ap (λ t. cond t (told book i) (refused 9)) (one-more i ne))
+                (λ ne. reply-kept sheets j new i ne ∙ P .answers i ∙ ap (λ t. cond t (told book i) absent) (one-more i ne))
 
             pub onward : Passed book lentOwners lentPrices lentScratch owners′ prices′ scratch′ (set sheets j new) total′ (first + n) (j + 1)
             unfolding counts

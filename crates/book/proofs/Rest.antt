@@ -18,9 +18,11 @@ use Rattle.model.specs.Promises.{Allocated}
 use Rattle.sheet.proofs.Refusal.{valid}
 use Rattle.sheet.proofs.OrElse.{or-else-next, or-else-first, or-else-none}
 use Rattle.welfare.proofs.NotRefused.{lent-ok}
-use Rattle.book.specs.Finals.{finalOf, writtenOf}
+use Rattle.allocation.specs.Final.{finalOf}
+use Rattle.allocation.proofs.Final.{final-unique, owners-long, prices-long}
+use Rattle.book.specs.Finals.{writtenOf}
 use Rattle.book.specs.Steps.{Room, RestShared}
-use Rattle.book.proofs.Finals.{final-unique, owners-long, prices-long, answer-shared, written-shared, answer-refused, written-refused}
+use Rattle.book.proofs.Finals.{answer-shared, written-shared, answer-refused, written-refused}
 
 -- a list whose rest from a on was lent, and is back as ys
 abbrev pub handedBack : List ℕ → ℕ → List ℕ → List ℕ

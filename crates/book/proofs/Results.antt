@@ -12,17 +12,17 @@ use Rattle.model.specs.declared.ShareOut.{ShareOut}
 use Rattle.model.specs.declared.SheetResult.{SheetResult}
 use Rattle.model.specs.declared.SheetEntry.{SheetEntry}
 use Rattle.model.specs.Limits.{maxSheets}
-use Rattle.model.specs.Replies.{refused, shared, sharedAt, shareOutReply, sheetReply}
-use Rattle.book.specs.Said.{isShared, placed, movesIn, cutsIn}
+use Rattle.model.specs.Replies.{refused, shared, sharedAt, absent, shareOutReply, sheetReply, replyAt}
+use Rattle.tally.specs.Counting.{movesIn, cutsIn}
+use Rattle.book.specs.Said.{isShared, placed}
 use Rattle.book.specs.Steps.{noEntries}
-use Rattle.book.specs.Passed.{replyAt}
 
 same-everywhere : {A : Type 0} (n j : ℕ) (a : A) → getD (replicate n a) j a ≡ a
 same-everywhere n j a =
     by-less j n (λ l. getD-replicate n j a a l) (λ l. List·getD-eq-default (replicate n a) a (rw (length-replicate n a) l))
 
-pub none-at : {sheets : List SheetEntry} → sheets ≡ noEntries → (j : ℕ) → replyAt sheets j ≡ refused 9
-none-at e j = rw e (ap (λ (x : SheetEntry). sheetReply (x .result)) (same-everywhere maxSheets j (record { result = SheetResult.Refused 9 })))
+pub none-at : {sheets : List SheetEntry} → sheets ≡ noEntries → (j : ℕ) → replyAt sheets j ≡ absent
+none-at e j = rw e (ap (λ (x : SheetEntry). sheetReply (x .result)) (same-everywhere maxSheets j (record { result = SheetResult.Absent })))
 
 module _ (sheets : List SheetEntry) (j : ℕ) (new : SheetEntry) where
   pub reply-new : j < length sheets → replyAt (set sheets j new) j ≡ sheetReply (new .result)

@@ -1,6 +1,6 @@
 -- How far the sheets of a book reach into the long lists, and what they leave there.
 -- Assumes nothing.
-use Prim.Native.Nat.{ℕ, zero, suc, _+_, _*_, _-_, _≤_, zero-le}
+use Prim.Native.Nat.{ℕ, zero, suc, _+_, _*_, _≤_, zero-le}
 use mathlib.Core.Bool.{cond}
 use mathlib.Core.List.{List, [], _++_}
 use mathlib.Core.Path.{_≡_, refl, ap}
@@ -18,9 +18,10 @@ use Rattle.model.specs.Algorithm.{State}
 use Rattle.model.specs.Refusals.{sheetRefusal}
 use Rattle.model.specs.Book.{ownRefusal, takesSheet, entriesOf, firstEntry, stretches}
 use Rattle.sheet.proofs.Refusal.{valid}
-use Rattle.book.specs.Finals.{accepts, finalOf, finalsOf, writtenOf}
+use Rattle.allocation.specs.Final.{accepts, finalOf}
+use Rattle.allocation.proofs.Final.{accepted}
+use Rattle.book.specs.Finals.{finalsOf, writtenOf}
 use Rattle.book.specs.Passed.{longAfter}
-use Rattle.book.proofs.Finals.{accepted}
 
 module _ (book : List ℕ) where
   pub entries-are : (j : ℕ) → entriesOf book j ≡ cond (accepts (sheetOf book j)) (choresOf (sheetOf book j)) 0

@@ -4,21 +4,17 @@ use mathlib.Core.Bool.{cond}
 use mathlib.Core.List.{List, _++_}
 use mathlib.Core.Path.{_≡_}
 use lib.Dec.{ltb}
-use lib.ListN.{length, getD, drop}
+use lib.ListN.{length, drop}
 use Rattle.finite.specs.Sums.{sumTo}
 use Rattle.model.specs.declared.Tally.{Tally}
-use Rattle.model.specs.declared.SheetResult.{SheetResult}
 use Rattle.model.specs.declared.SheetEntry.{SheetEntry}
 use Rattle.model.specs.Limits.{maxSheets}
 use Rattle.model.specs.Contents.{sheetCount, sheetOf}
 use Rattle.model.specs.Algorithm.{State}
-use Rattle.model.specs.Replies.{Reply, refused, sharedAt, sheetReply}
+use Rattle.model.specs.Replies.{Reply, refused, sharedAt, absent, replyAt}
 use Rattle.model.specs.Book.{ownRefusal, firstEntry, stretches}
-use Rattle.book.specs.Finals.{accepts, finalsOf}
-
--- the answer of entry j, as `entryAt` has it
-abbrev pub replyAt : List SheetEntry → ℕ → Reply
-replyAt sheets j = sheetReply (getD sheets j (record { result = SheetResult.Refused 9 }) .result)
+use Rattle.allocation.specs.Final.{accepts}
+use Rattle.book.specs.Finals.{finalsOf}
 
 module _ (book : List ℕ) where
   -- the answer for sheet i, one of the book's
@@ -40,7 +36,7 @@ module _ (book : List ℕ) where
     pub within : j ≤ sheetCount book
     pub firstFree : first ≡ firstEntry book j
     pub size : length sheets ≡ maxSheets
-    pub answers : (i : ℕ) → replyAt sheets i ≡ cond (ltb i j) (told i) (refused 9)
+    pub answers : (i : ℕ) → replyAt sheets i ≡ cond (ltb i j) (told i) absent
     pub moves : total .moves ≡ sumTo j (counts (λ x. x .moves))
     pub cuts : total .cuts ≡ sumTo j (counts (λ x. x .cuts))
     pub ownersNow : owners ≡ longAfter (λ x. x .owners) j lentOwners

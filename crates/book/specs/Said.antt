@@ -13,12 +13,3 @@ isShared (ShareOut.Shared moves cuts) = true
 abbrev pub placed : ℕ → ShareOut → Reply
 placed first (ShareOut.Refused k) = refused k
 placed first (ShareOut.Shared moves cuts) = sharedAt moves cuts first
-
--- what the sheet adds to the tally
-abbrev pub movesIn : ShareOut → ℕ
-movesIn (ShareOut.Refused k) = 0
-movesIn (ShareOut.Shared moves cuts) = moves
-
-abbrev pub cutsIn : ShareOut → ℕ
-cutsIn (ShareOut.Refused k) = 0
-cutsIn (ShareOut.Shared moves cuts) = cuts

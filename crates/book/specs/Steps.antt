@@ -1,17 +1,16 @@
 -- What the functions over the sheets of a book ask and leave.
-use Prim.Native.Nat.{ℕ, _+_, _^_, _≤_, _<_}
+use Prim.Native.Nat.{ℕ, _+_, _≤_}
 use mathlib.Core.Bool.{true, cond}
 use mathlib.Core.List.{List}
 use mathlib.Core.Path.{_≡_}
 use lib.ListN.{length, replicate}
 use lib.Seq.{sets}
-use Rattle.model.specs.declared.Tally.{Tally}
 use Rattle.model.specs.declared.ShareOut.{ShareOut}
 use Rattle.model.specs.declared.SheetResult.{SheetResult}
 use Rattle.model.specs.declared.SheetEntry.{SheetEntry}
 use Rattle.model.specs.declared.BookResult.{BookResult}
 use Rattle.model.specs.Limits.{maxChores, scratchSize, maxSheets, bookEntries}
-use Rattle.model.specs.Sheet.{choresOf}
+use Rattle.model.specs.Sheet.{headerSize, choresOf}
 use Rattle.model.specs.Replies.{shareOutReply}
 use Rattle.model.specs.Promises.{BookNotShared}
 use Rattle.contents.specs.Fits.{Fits}
@@ -20,21 +19,11 @@ use Rattle.book.specs.Finals.{answerOf, writtenOf}
 
 -- the results before any sheet
 abbrev pub noEntries : List SheetEntry
-noEntries = replicate maxSheets (record { result = SheetResult.Refused 9 })
-
--- a tally has room for so many more moves and cuts
-pub record Fitting (t : Tally) (m c : ℕ) : Type 0 where
-  pub moves : t .moves + m < 2 ^ 64
-  pub cuts : t .cuts + c < 2 ^ 64
-
--- and has them
-pub record Counted (t : Tally) (m c : ℕ) (t′ : Tally) : Type 0 where
-  pub moves : t′ .moves ≡ t .moves + m
-  pub cuts : t′ .cuts ≡ t .cuts + c
+noEntries = replicate maxSheets (record { result = SheetResult.Absent })
 
 -- a sheet that was shared out has a header
 pub record Answered (s : List ℕ) (out : ShareOut) : Type 0 where
-  pub header : isShared out ≡ true → 6 ≤ length s
+  pub header : isShared out ≡ true → headerSize ≤ length s
 
 -- the entries that a sheet takes
 pub record Taken (s : List ℕ) (out : ShareOut) (r : ℕ) : Type 0 where

@@ -1,7 +1,6 @@
 // The share-out of a whole book: sheet after sheet, each into the next free stretch of the long lists.
 
 mod refusal;
-mod tally;
 
 ghost use mathlib.Core.Path.{_≡_};
 ghost use Rattle.model.specs.Replies.{sheetReply};
@@ -9,14 +8,11 @@ ghost use Rattle.model.specs.Promises.{BookSharedOut, BookAllocated};
 ghost use Rattle.book.specs.Said.{placed};
 ghost use Rattle.book.specs.Steps.{noEntries, Answered, Taken, Room, RestShared, Fine, TurnedDown};
 
-// The number for a sheet that the book does not have.
-const NO_SHEET: u8 = 9;
-
 fn no_sheets() -> [model::SheetEntry; model::MAX_SHEETS]
     ensures { λ r. ⌜ r ≡ noEntries ⌝ }
 {
     let none = model::SheetEntry {
-        result: model::SheetResult::Refused(NO_SHEET),
+        result: model::SheetResult::Absent,
     };
     [none; model::MAX_SHEETS]
 }

@@ -4,18 +4,19 @@ ghost use Prim.Native.Nat.{_+_, _*_, _≤_, _<_};
 ghost use mathlib.Core.Path.{_≡_};
 ghost use lib.ListN.{length};
 ghost use Rattle.model.specs.Limits.{maxAgents, maxChores, scratchSize};
+ghost use Rattle.model.specs.Sheet.{headerSize};
 use libc::STDOUT_FILENO;
+use model::HEADER_SIZE;
 use model::ListVerdict;
 use model::PriceVerdict;
 use model::ShareOut;
 
-// The marks start here.
-const HEADER: usize = 6;
-
 // The longest sheet tried has two rows, of one chore past the limit.
-const LONGEST: usize = HEADER + 2 * (model::MAX_CHORES + 1);
+const LONGEST: usize = HEADER_SIZE + 2 * (model::MAX_CHORES + 1);
 
-// Sheet C's two rows.
+// Sheet C's chores, and its two rows.
+const CHORES: usize = 5;
+
 const ROWS: [u8; 10] = *b"eeeeedddde";
 
 fn print(text: &[u8]) {
@@ -32,17 +33,33 @@ fn print_refused(number: u8) {
     print(b"\n");
 }
 
-// No case of a check or a lookup comes here.
+// No case of a check comes here.
 fn print_taken() {
     print(b" not refused\n");
 }
 
-fn print_share_out(answer: ShareOut) {
+fn print_owners(owners: &[u8]) {
+    print(b" owners");
+    for k in 0..owners.len() {
+        print_case(b" ", owners[k] as u64);
+    }
+}
+
+fn print_prices(prices: &[u32]) {
+    print(b" prices");
+    for k in 0..prices.len() {
+        print_case(b" ", prices[k] as u64);
+    }
+}
+
+fn print_share_out(answer: ShareOut, owners: &[u8], prices: &[u32]) {
     match answer {
         ShareOut::Refused(number) => print_refused(number),
         ShareOut::Shared { moves, cuts } => {
             print_case(b" moves ", moves);
             print_case(b" cuts ", cuts as u64);
+            print_owners(owners);
+            print_prices(prices);
             print(b"\n");
         }
     }
@@ -62,17 +79,9 @@ fn print_price_verdict(answer: PriceVerdict) {
     }
 }
 
-fn print_lookup(refusal: u8) {
-    if refusal == 0 {
-        print_taken();
-    } else {
-        print_refused(refusal);
-    }
-}
-
 // The weights are 1 and b, high byte first.
 fn write_header(sheet: &mut [u8], n: u8, m: u8, b: u16)
-    requires { ⌜ 6 ≤ length (now sheet) ⌝ }
+    requires { ⌜ headerSize ≤ length (now sheet) ⌝ }
 {
     sheet[0] = n;
     sheet[1] = m;
@@ -84,44 +93,47 @@ fn write_header(sheet: &mut [u8], n: u8, m: u8, b: u16)
 
 // The marks fill the rows, over and over.
 fn write_rows(sheet: &mut [u8], marks: &[u8])
-    requires { ⌜ 6 ≤ length (now sheet) ⌝ }
+    requires { ⌜ headerSize ≤ length (now sheet) ⌝ }
     requires { ⌜ 0 < length (now marks) ⌝ }
 {
-    let mut k = HEADER;
+    let mut k = HEADER_SIZE;
     while k < sheet.len() {
-        sheet[k] = marks[(k - HEADER) % marks.len()];
+        sheet[k] = marks[(k - HEADER_SIZE) % marks.len()];
         k += 1;
     }
 }
 
 fn write_sheet(sheet: &mut [u8], n: u8, m: u8, b: u16, marks: &[u8])
-    requires { ⌜ 6 ≤ length (now sheet) ⌝ }
+    requires { ⌜ headerSize ≤ length (now sheet) ⌝ }
     requires { ⌜ 0 < length (now marks) ⌝ }
 {
     write_header(sheet, n, m, b);
     write_rows(sheet, marks);
 }
 
-// The lists have room for a chore past the limit, so that they are not what is turned down.
-fn try_share_out(sheet: &[u8], scratch: usize)
+// The lists have room for a chore past the limit, so that they are not what is turned down. The sheet has m chores.
+fn try_share_out(sheet: &[u8], m: usize, scratch: usize)
+    requires { ⌜ m ≤ maxChores + 1 ⌝ }
     requires { ⌜ scratch ≤ scratchSize ⌝ }
 {
     let mut owners = [0u8; model::MAX_CHORES + 1];
     let mut prices = [0u32; model::MAX_CHORES + 1];
     let mut lent = [0u8; model::SCRATCH_SIZE];
-    print_share_out(allocation::allocate(sheet, &mut owners, &mut prices, &mut lent[0..scratch]));
+    let answer = allocation::allocate(sheet, &mut owners, &mut prices, &mut lent[0..scratch]);
+    print_share_out(answer, &owners[0..m], &prices[0..m]);
 }
 
 fn try_sheet(n: u8, m: u8, b: u16, marks: &[u8], scratch: usize)
-    requires { ⌜ 6 + n * m ≤ 6 + 2 * (maxChores + 1) ⌝ }
+    requires { ⌜ m ≤ maxChores + 1 ⌝ }
+    requires { ⌜ headerSize + n * m ≤ headerSize + 2 * (maxChores + 1) ⌝ }
     requires { ⌜ 0 < length (now marks) ⌝ }
     requires { ⌜ scratch ≤ scratchSize ⌝ }
 {
     let mut space = [0u8; LONGEST];
-    let size = HEADER + (n as usize) * (m as usize);
+    let size = HEADER_SIZE + (n as usize) * (m as usize);
     let sheet = &mut space[0..size];
     write_sheet(sheet, n, m, b, marks);
-    try_share_out(sheet, scratch);
+    try_share_out(sheet, m as usize, scratch);
 }
 
 fn try_agents(n: u8)
@@ -179,7 +191,7 @@ fn try_mark(mark: u8) {
     sheet[15] = mark;
     print(b"mark ");
     print(&[mark]);
-    try_share_out(&sheet, model::SCRATCH_SIZE);
+    try_share_out(&sheet, CHORES, model::SCRATCH_SIZE);
 }
 
 fn try_length(size: usize)
@@ -187,7 +199,7 @@ fn try_length(size: usize)
 {
     let sheet = sheet_c();
     print_case(b"length ", size as u64);
-    try_share_out(&sheet[0..size], model::SCRATCH_SIZE);
+    try_share_out(&sheet[0..size], CHORES, model::SCRATCH_SIZE);
 }
 
 fn try_list(owners: &[u8]) {
@@ -217,15 +229,33 @@ fn try_price(price: u32) {
     print_price_verdict(pricecheck::check_prices(&sheet, &owners, &prices));
 }
 
-// A book of C alone: one entry, of a body from byte 5 on and of 16 bytes.
-fn try_lookup(number: usize) {
-    let mut book = [0u8; 21];
-    book[0] = 1;
-    book[2] = 5;
+// A sheet that is found is shared out.
+fn print_found(refusal: u8, sheet: &[u8]) {
+    if refusal != 0 {
+        print_refused(refusal);
+    } else {
+        print_case(b" of ", sheet.len() as u64);
+        print(b" bytes");
+        try_share_out(sheet, CHORES, model::SCRATCH_SIZE);
+    }
+}
+
+// What a lookup answers is taken apart here alone.
+fn look_up(book: &[u8], which: usize) {
+    let found = contents::find_sheet(book, which);
+    print_found(found.refusal, found.sheet);
+}
+
+// A book of C, from byte 9 on and of 16 bytes, and of a sheet of no bytes, which is no refused lookup.
+fn try_lookup(which: usize) {
+    let mut book = [0u8; 25];
+    book[0] = 2;
+    book[2] = 9;
     book[4] = 16;
-    write_sheet(&mut book[5..21], 2, 5, 3, &ROWS);
-    print_case(b"sheet ", number as u64);
-    print_lookup(contents::lookup_refusal(&book, number));
+    book[6] = 25;
+    write_sheet(&mut book[9..25], 2, 5, 3, &ROWS);
+    print_case(b"sheet ", which as u64);
+    look_up(&book, which);
 }
 
 fn main() {
@@ -235,5 +265,8 @@ fn main() {
     try_owners(4);
     try_owner(3);
     try_price(0);
+    try_lookup(0);
+    try_lookup(1);
     try_lookup(2);
+    try_lookup(3);
 }

@@ -12,7 +12,7 @@ use lib.Seq.{take-take}
 use borrow.Author.Tests.{eq-eqb, ne-eqb}
 use Rattle.finite.proofs.Search.{all-zero, all-next, all-fails-intro}
 use Rattle.finite.proofs.Tests.{and-intro}
-use Rattle.model.specs.Contents.{sheetCount, sheetStart, sheetSize, sheetEnd, bodyStart, sheetOf}
+use Rattle.model.specs.Contents.{sheetCount, sheetStart, sheetSize, sheetEnd, bodyStart}
 use Rattle.contents.specs.Parts.{startsFit, bodiesFit}
 use Rattle.contents.specs.Fits.{Fits}
 
@@ -85,8 +85,3 @@ module _ {book : List ℕ} (f : Fits book) where
   -- and so does its entry in the contents
   pub entry-inside : (j : ℕ) → j < sheetCount book → 1 + 4 * (j + 1) ≤ length book
   entry-inside j l = omega (arith, f .contents)
-
-  -- a sheet is as long as its entry says
-  pub sheet-long : (j : ℕ) → j < sheetCount book → length (sheetOf book j) ≡ sheetSize book j
-  unfolding sheetOf
-  sheet-long j l = simp (length-take, length-drop) (omega (arith, sheet-inside j l))

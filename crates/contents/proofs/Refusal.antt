@@ -4,15 +4,15 @@ use Prim.Native.Nat.{ℕ, _+_, _*_, _≤_, _<_}
 use mathlib.Core.Bool.{true, false, _&&_}
 use mathlib.Core.List.{List}
 use mathlib.Core.Path.{_≡_, refl, sym, _∙_}
-use native.Mathlib.Omega.{arith}
 use lib.Dec.{leb, ltb}
 use lib.ListN.{length}
-use borrow.Author.Tests.{lt-ltb, le-leb, lt-leb, ltb-true, leb-true, eq-eqb, eqb-true}
-use Rattle.finite.proofs.Tests.{by-test, and-elim, and-intro, and-no-left}
+use borrow.Author.Tests.{lt-ltb, le-leb, lt-leb, ltb-true, leb-true, eq-eqb, eqb-true, not-false}
+use Rattle.finite.proofs.Tests.{and-elim, and-intro, and-no-left}
 use Rattle.finite.proofs.Search.{all-elim, all-intro}
 use Rattle.model.specs.Limits.{maxSheets, maxBook}
 use Rattle.model.specs.Contents.{sheetCount, bookFits}
 use Rattle.model.specs.Refusals.{contentsRefusal}
+use Rattle.sheet.proofs.OrElse.{when-none}
 use Rattle.contents.specs.Parts.{inRange, startsFit, bodiesFit}
 use Rattle.contents.specs.Fits.{Fits}
 
@@ -53,17 +53,13 @@ module _ (book : List ℕ) where
       pub bodies-decide : 1 + 4 * k ≤ length book → bookFits book ≡ bodiesFit book k
       bodies-decide l = rw (steps-on, counted, le-leb _ _ l)
 
-  -- the number that it gives
-  pub refused : bookFits book ≡ false → contentsRefusal book ≡ 9
-  unfolding contentsRefusal
-  refused e = rw e
-
-  pub not-refused : bookFits book ≡ true → contentsRefusal book ≡ 0
+  not-refused : bookFits book ≡ true → contentsRefusal book ≡ 0
   unfolding contentsRefusal
   not-refused e = rw e
 
   book-fits : contentsRefusal book ≡ 0 → bookFits book ≡ true
-  book-fits z = by-test (bookFits book) (λ e. e) (λ e. absurd (omega (arith, z, refused e)))
+  unfolding contentsRefusal
+  book-fits z = not-false _ (when-none _ 8 z)
 
 -- refusal 0 means that the contents keep the book's rule
 pub fits : (book : List ℕ) → contentsRefusal book ≡ 0 → Fits book

@@ -5,7 +5,7 @@ ghost use Prim.Native.Nat.{_+_, _*_, _≤_, _<_};
 ghost use lib.ListN.{length};
 ghost use Rattle.model.specs.Contents.{sheetCount, sheetStart, sheetSize, bookFits, sheetOf};
 ghost use Rattle.model.specs.Refusals.{contentsRefusal, lookupRefusal};
-ghost use Rattle.model.specs.Promises.{lookup};
+ghost use Rattle.model.specs.Promises.{SheetFound};
 ghost use Rattle.sheet.specs.Readers.{Read};
 ghost use Rattle.contents.specs.Parts.{inRange, bodiesFit, Contents};
 ghost use Rattle.contents.specs.Fits.{SheetInBook};
@@ -80,7 +80,7 @@ fn contents_fit(book: &[u8]) -> bool
 pub fn contents_refusal(book: &[u8]) -> u8
     ensures { λ r. ⌜ r ≡ contentsRefusal (now (book .entry)) ⌝ }
 {
-    if contents_fit(book) { 0 } else { REFUSED }
+    sheet::when(REFUSED, !contents_fit(book))
 }
 
 pub fn lookup_refusal(book: &[u8], number: usize) -> u8
@@ -90,13 +90,8 @@ pub fn lookup_refusal(book: &[u8], number: usize) -> u8
     if refusal != 0 {
         return refusal;
     }
-    if number == 0 {
-        return REFUSED;
-    }
-    if number - 1 >= count(book) {
-        return REFUSED;
-    }
-    0
+    let k = count(book);
+    sheet::when(REFUSED, sheet::out_of_range(number, k))
 }
 
 pub fn sheet_at(book: &[u8], j: usize) -> &[u8]
@@ -109,12 +104,23 @@ pub fn sheet_at(book: &[u8], j: usize) -> &[u8]
     &rest[0..size]
 }
 
-// No bytes where the lookup is refused: whoever has to tell that from a sheet of no bytes asks `lookup_refusal`.
-pub fn find_sheet(book: &[u8], number: usize) -> &[u8]
-    ensures { λ r. ⌜ now r ≡ lookup (now (book .entry)) number ⌝ }
+// The part of the book that goes with a lookup's refusal number: no bytes where it is refused.
+fn part_of(book: &[u8], refusal: u8, which: usize) -> &[u8]
+    requires { ⌜ refusal ≡ lookupRefusal (now book) which ⌝ }
+    ensures { λ r. ⌜ SheetFound (now (book .entry)) which refusal (now r) ⌝ }
 {
-    if lookup_refusal(book, number) != 0 {
+    if refusal != 0 {
         return &book[0..0];
     }
-    sheet_at(book, number - 1)
+    sheet_at(book, which - 1)
+}
+
+// The number and the part at once, so that a sheet of no bytes is told from a refused lookup. A function over a struct that holds a reference
+// is proved by a walk of its code by hand: this one calls the two that do the work, and no more.
+pub fn find_sheet<'a>(book: &'a [u8], which: usize) -> model::Found<'a>
+    ensures { λ r. ⌜ SheetFound (now (book .entry)) which (r .refusal) (now (r .sheet)) ⌝ }
+{
+    let refusal = lookup_refusal(book, which);
+    let sheet = part_of(book, refusal, which);
+    model::Found { refusal, sheet }
 }

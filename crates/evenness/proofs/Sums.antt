@@ -29,11 +29,11 @@ use Rattle.evenness.specs.Sums.{Summed}
 
 module _ (I : Instance) (x : ℕ → ℕ) (i : ℕ) where
   -- before the first chore
-  pub summed-none : I .n ≤ maxAgents → Summed I x i 0 (replicate 32 0)
+  pub summed-none : I .n ≤ maxAgents → Summed I x i 0 (replicate maxAgents 0)
   summed-none fits =
       record {
-        size = length-replicate {A = ℕ} 32 0;
-        each = λ j l. getD-replicate {A = ℕ} 32 j 0 0 (omega arith) ∙ sym (where-zero (owns x j) (cost I i));
+        size = length-replicate {A = ℕ} maxAgents 0;
+        each = λ j l. getD-replicate {A = ℕ} maxAgents j 0 0 (omega arith) ∙ sym (where-zero (owns x j) (cost I i));
       }
 
   -- one chore more, added to its owner's sum

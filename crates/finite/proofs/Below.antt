@@ -2,7 +2,7 @@
 -- Assumes nothing.
 use Prim.Native.Nat.{ℕ, suc, _≤_, _<_}
 use mathlib.Core.Path.{_≡_}
-use native.Mathlib.Nat.{not-suc-le-zero, le-step, lt-of-lt-of-le}
+use native.Mathlib.Nat.{not-suc-le-zero, le-step}
 use native.Mathlib.Omega.{arith}
 use lib.Dec.{ltb, eqb}
 use borrow.Author.Tests.{eqb-true, eqb-false, ltb-true, ltb-false}
@@ -20,10 +20,6 @@ by-top {i = i} {k} h top rest =
 -- what holds below k + 1 holds below k
 pub lower {ℓ} : {P : ℕ → Type ℓ} {k : ℕ} → ((i : ℕ) → i < suc k → P i) → (i : ℕ) → i < k → P i
 lower all i h = all i (le-step h)
-
--- what holds below m holds below n
-pub below-le {ℓ} : {P : ℕ → Type ℓ} {n m : ℕ} → n ≤ m → ((i : ℕ) → i < m → P i) → (i : ℕ) → i < n → P i
-below-le le all i h = all i (lt-of-lt-of-le h le)
 
 pub by-less {ℓ} : {A : Type ℓ} (a b : ℕ) → (a < b → A) → (b ≤ a → A) → A
 by-less a b less more = by-test (ltb a b) (λ e. less (ltb-true a b e)) (λ e. more (ltb-false a b e))

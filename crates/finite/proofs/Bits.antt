@@ -136,10 +136,6 @@ set-none n = record { below = pow-pos n; member = λ i l. bit-zero i }
 pub set-zero : (t : ℕ → Bool) → SetOf 0 0 t
 set-zero t = record { below = pow-pos 0; member = λ i l. none-below l }
 
--- a word is the set of its bits
-pub set-self : {n w : ℕ} → w < 2 ^ n → SetOf n w (bit w)
-set-self h = record { below = h; member = λ i l. refl }
-
 pub set-cong : {n w : ℕ} {t u : ℕ → Bool} → ((i : ℕ) → i < n → t i ≡ u i) → SetOf n w t → SetOf n w u
 set-cong e s = record { below = s .below; member = λ i l. s .member i l ∙ e i l }
 
@@ -156,14 +152,6 @@ set-or {n} {v} {w} s r =
       below = or-lt n v w (s .below) (r .below);
       member = λ i l. bit-or v w i ∙ ap₂ _||_ (s .member i l) (r .member i l);
     }
-
--- the set of k alone
-pub set-one : {n : ℕ} (k : ℕ) → k < n → SetOf n (2 ^ k) (λ i. eqb i k)
-set-one k l = record { below = pow-lt l; member = λ i m. bit-pow k i }
-
--- the set with k
-pub set-insert : {n w : ℕ} {t : ℕ → Bool} (k : ℕ) → k < n → SetOf n w t → SetOf n (bitOr w (2 ^ k)) (λ i. t i || eqb i k)
-set-insert k l s = set-or s (set-one k l)
 
 -- the bound grown by one: the new number fails, or passes and is put in
 pub set-skip : {k w : ℕ} {t : ℕ → Bool} → SetOf k w t → t k ≡ false → SetOf (k + 1) w t
@@ -199,7 +187,3 @@ set-some {n} {w} {t} s =
     by-same w 0
     (λ e. any-none-intro n t (set-empty (rw e at s)) ∙ sym (ap not (eq-eqb w 0 e)))
     (λ e. not-no (anyBelow n t) (λ none. e (set-unique s (set-cong (λ i l. sym (any-none n t none i l)) (set-none n)))) ∙ sym (ap not (ne-eqb w 0 e)))
-
--- nothing is a member from the bound on
-pub set-above : {n w : ℕ} {t : ℕ → Bool} → SetOf n w t → (i : ℕ) → n ≤ i → bit w i ≡ false
-set-above s i l = bit-above (s .below) l

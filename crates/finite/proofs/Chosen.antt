@@ -2,14 +2,14 @@
 -- Assumes nothing.
 use Prim.Native.Nat.{ℕ, _+_, _≤_, _<_}
 use mathlib.Core.Bool.{Bool, true, false, not, _&&_}
-use mathlib.Core.Path.{_≡_, sym, ap₂, _∙_}
+use mathlib.Core.Path.{_≡_, ap₂}
 use native.Mathlib.Omega.{arith}
 use lib.Dec.{ltb}
-use borrow.Author.Tests.{ltb-true, ltb-false, lt-ltb, le-ltb, not-true, not-false}
+use borrow.Author.Tests.{ltb-true, ltb-false, le-ltb, not-true, not-false}
 use borrow.Author.Count.{below-more}
-use Rattle.finite.specs.Search.{anyBelow, chosen}
-use Rattle.finite.proofs.Tests.{clash, not-no, and-elim, and-intro, and-rest, and-no-left, and-no-right, not-on, not-off, by-test}
-use Rattle.finite.proofs.Search.{Hit, any-intro, any-elim, any-none, any-none-intro, any-cong, first-le, found, first-unique, first-none-intro, first-cong}
+use Rattle.finite.specs.Search.{anyBelow, chosen, Hit}
+use Rattle.finite.proofs.Tests.{and-elim, and-intro, and-rest, and-no-left, and-no-right, not-on, not-off, by-test}
+use Rattle.finite.proofs.Search.{any-intro, any-elim, any-none, any-none-intro, any-cong, found, first-unique, first-none-intro, first-cong}
 
 -- what a choice is: it passes, none that passes is better, and each that passes before it has a better one
 pub record Chosen (n : ℕ) (t : ℕ → Bool) (better : ℕ → ℕ → Bool) (r : ℕ) : Type 0 where
@@ -24,10 +24,6 @@ pub record Order (better : ℕ → ℕ → Bool) : Type 0 where
   pub through : (i j k : ℕ) → better j i ≡ false → better k j ≡ false → better k i ≡ false
 
 module _ (n : ℕ) (t : ℕ → Bool) (better : ℕ → ℕ → Bool) where
-  pub chosen-le : chosen n t better ≤ n
-  unfolding chosen
-  chosen-le = first-le n _
-
   pub chosen-found : chosen n t better < n → Chosen n t better (chosen n t better)
   unfolding chosen
   chosen-found l =
@@ -63,11 +59,6 @@ pub chosen-cong : (n : ℕ) {t u : ℕ → Bool} {better finer : ℕ → ℕ →
 unfolding chosen
 chosen-cong n h e = first-cong n (λ i l. ap₂ (λ a b. a && not b) (h i l) (any-cong n (λ j m. ap₂ _&&_ (h j m) (e j i m l))))
 
-pub Chosen-cong : {n : ℕ} {t u : ℕ → Bool} {better finer : ℕ → ℕ → Bool} {r : ℕ} → ((i : ℕ) → i < n → t i ≡ u i) → ((j i : ℕ) → j < n → i < n → better j i ≡ finer j i) → Chosen n t better r → Chosen n u finer r
-Chosen-cong {n} {t} {u} {better} {finer} {r} h e c =
-    let q : chosen n u finer ≡ r = sym (chosen-cong n h e) ∙ chosen-unique c in
-    rw q at (chosen-found n u finer (omega (arith, c .below)))
-
 -- one more number, which does not pass or is not better
 pub chosen-more : {k : ℕ} {t : ℕ → Bool} {better : ℕ → ℕ → Bool} {r : ℕ} → Chosen k t better r → (t k ≡ true → better k r ≡ false) → Chosen (k + 1) t better r
 chosen-more {k} {t} {better} {r} c h =
@@ -83,14 +74,6 @@ chosen-more {k} {t} {better} {r} c h =
 module _ {better : ℕ → ℕ → Bool} (o : Order better) where
   pub order-same : (i : ℕ) → better i i ≡ false
   order-same i = by-test (better i i) (λ e. o .asym i i e) (λ e. e)
-
-  -- the choice is better than each that passes before it
-  pub chosen-ahead : {n : ℕ} {t : ℕ → Bool} {r : ℕ} → Chosen n t better r → (i : ℕ) → i < r → t i ≡ true → better r i ≡ true
-  chosen-ahead {n} {t} {r} c i l p =
-      let w = c .before i l p in
-      let j = w .index in
-      let both = and-elim (t j) (better j i) (w .passes) in
-      not-no (better r i) (λ e. clash (both .1) (o .through i r j e (c .best j (w .below) (both .0))))
 
   pub chosen-intro : {n : ℕ} {t : ℕ → Bool} {r : ℕ} → r < n → t r ≡ true → ((j : ℕ) → j < n → t j ≡ true → better j r ≡ false) → ((i : ℕ) → i < r → t i ≡ true → better r i ≡ true) → Chosen n t better r
   chosen-intro {n} {t} {r} l p best ahead =
@@ -127,19 +110,5 @@ module _ {n : ℕ} {t : ℕ → Bool} (f : ℕ → ℕ) {r : ℕ} where
   pub smallest-le : Chosen n t (smaller f) r → (j : ℕ) → j < n → t j ≡ true → f r ≤ f j
   smallest-le c j l p = ltb-false (f j) (f r) (c .best j l p)
 
-  pub smallest-ahead : Chosen n t (smaller f) r → (i : ℕ) → i < r → t i ≡ true → f r < f i
-  smallest-ahead c i l p = ltb-true (f r) (f i) (chosen-ahead (smaller-order f) c i l p)
-
-  pub smallest-intro : r < n → t r ≡ true → ((j : ℕ) → j < n → t j ≡ true → f r ≤ f j) → ((i : ℕ) → i < r → t i ≡ true → f r < f i) → Chosen n t (smaller f) r
-  smallest-intro l p best ahead =
-      chosen-intro (smaller-order f) l p (λ j h q. le-ltb (f j) (f r) (best j h q)) (λ i h q. lt-ltb (f r) (f i) (ahead i h q))
-
   pub greatest-ge : Chosen n t (greater f) r → (j : ℕ) → j < n → t j ≡ true → f j ≤ f r
   greatest-ge c j l p = ltb-false (f r) (f j) (c .best j l p)
-
-  pub greatest-ahead : Chosen n t (greater f) r → (i : ℕ) → i < r → t i ≡ true → f i < f r
-  greatest-ahead c i l p = ltb-true (f i) (f r) (chosen-ahead (greater-order f) c i l p)
-
-  pub greatest-intro : r < n → t r ≡ true → ((j : ℕ) → j < n → t j ≡ true → f j ≤ f r) → ((i : ℕ) → i < r → t i ≡ true → f i < f r) → Chosen n t (greater f) r
-  greatest-intro l p best ahead =
-      chosen-intro (greater-order f) l p (λ j h q. le-ltb (f r) (f j) (best j h q)) (λ i h q. lt-ltb (f i) (f r) (ahead i h q))

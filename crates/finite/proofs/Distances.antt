@@ -1,6 +1,6 @@
 -- Distances: the round in which a place is reached first.
 -- Assumes nothing.
-use Prim.Native.Nat.{ℕ, zero, suc, _≤_, _<_}
+use Prim.Native.Nat.{ℕ, zero, suc, _<_}
 use mathlib.Core.Bool.{Bool, true, false}
 use mathlib.Core.Path.{_≡_}
 use native.Mathlib.Nat.{le-refl}
@@ -11,13 +11,9 @@ use Rattle.finite.specs.Reach.{reach}
 use Rattle.finite.proofs.Tests.{fails-of}
 use Rattle.finite.proofs.Search.{first-some, found}
 use Rattle.finite.proofs.Counts.{count-le, count-point, count-strict}
-use Rattle.finite.proofs.Reach.{reach-kept, reach-step, reach-added, reach-mono}
+use Rattle.finite.proofs.Reach.{reach-kept, reach-step, reach-added}
 
 module _ (n : ℕ) (start : ℕ → Bool) (link : ℕ → ℕ → Bool) where
-  -- what more rounds miss, fewer miss
-  pub reach-before : {t u : ℕ} → t ≤ u → (i : ℕ) → reach n start link u i ≡ false → reach n start link t i ≡ false
-  reach-before l i e = fails-of (reach-mono n start link l i) e
-
   -- what i is linked to is missed one round earlier, if i is missed
   pub reach-behind : (t i j : ℕ) → j < n → link i j ≡ true → reach n start link (suc t) i ≡ false → reach n start link t j ≡ false
   reach-behind t i j l k e = fails-of (λ h. reach-step n start link t i j l h k) e

@@ -6,9 +6,8 @@ use mathlib.Core.Path.{_≡_, refl, sym, ap, ap₂, _∙_}
 use native.Mathlib.Nat.{le-refl, le-antisymm, mul-zero, mul-le-mul-left, max-eq-left, max-eq-right, min-eq-left, min-eq-right, le-of-lt}
 use native.Mathlib.Numerals.{add-one}
 use native.Mathlib.Omega.{arith}
-use borrow.Author.Count.{below-more}
 use Rattle.finite.specs.Sums.{maxTo, maxWhere, minTo}
-use Rattle.finite.proofs.Tests.{by-test, cond-cong, cond-mono, cond-le, cond-scale, clash}
+use Rattle.finite.proofs.Tests.{by-test, cond-cong, cond-le, cond-scale}
 use Rattle.finite.proofs.Below.{none-below, by-top, lower, by-less}
 
 -- l is the greatest of f 0 .. f (n - 1)
@@ -35,19 +34,9 @@ pub record Low (n : ℕ) (f : ℕ → ℕ) (l : ℕ) : Type 0 where
 
 -- maxTo
 
-pub top-zero : (f : ℕ → ℕ) → maxTo 0 f ≡ 0
-unfolding maxTo
-top-zero f = refl
-
 pub top-next : (k : ℕ) (f : ℕ → ℕ) → maxTo (k + 1) f ≡ max (maxTo k f) (f k)
 unfolding maxTo
 top-next k f = ap (λ n. maxTo n f) (add-one k)
-
-pub top-keep : (k : ℕ) (f : ℕ → ℕ) → f k ≤ maxTo k f → maxTo (k + 1) f ≡ maxTo k f
-top-keep k f l = rw top-next (max-eq-left l)
-
-pub top-raise : (k : ℕ) (f : ℕ → ℕ) → maxTo k f ≤ f k → maxTo (k + 1) f ≡ f k
-top-raise k f l = rw top-next (max-eq-right l)
 
 pub top-above : {n : ℕ} (f : ℕ → ℕ) (i : ℕ) → i < n → f i ≤ maxTo n f
 unfolding maxTo
@@ -69,18 +58,10 @@ top-attained {n = suc (suc k)} f l =
     (λ s. record { index = suc k; below = le-refl _; value = omega arith; above = top-above f })
     (λ s. record { index = r .index; below = omega arith; value = omega (arith, r .value); above = top-above f })
 
-pub top-unique : {n : ℕ} {f : ℕ → ℕ} {l : ℕ} → Top n f l → l ≡ maxTo n f
-top-unique {n} {f} r = le-antisymm (omega (arith, top-above f (r .index) (r .below))) (top-at-most n (r .above))
-
 pub top-cong : (n : ℕ) {f g : ℕ → ℕ} → ((i : ℕ) → i < n → f i ≡ g i) → maxTo n f ≡ maxTo n g
 unfolding maxTo
 top-cong zero h = refl
 top-cong (suc k) h = ap₂ max (top-cong k (lower h)) (h k (le-refl _))
-
-pub top-mono : (n : ℕ) {f g : ℕ → ℕ} → ((i : ℕ) → i < n → f i ≤ g i) → maxTo n f ≤ maxTo n g
-unfolding maxTo
-top-mono zero h = le-refl 0
-top-mono (suc k) h = omega (arith, top-mono k (lower h), h k (le-refl _))
 
 pub mul-max : (k a b : ℕ) → k * max a b ≡ max (k * a) (k * b)
 mul-max k a b =
@@ -91,9 +72,6 @@ pub top-scale : (n k : ℕ) (f : ℕ → ℕ) → k * maxTo n f ≡ maxTo n (λ 
 unfolding maxTo
 top-scale zero k f = mul-zero k
 top-scale (suc j) k f = mul-max k (maxTo j f) (f j) ∙ ap (λ v. max v (k * f j)) (top-scale j k f)
-
-pub top-grow : {n m : ℕ} (f : ℕ → ℕ) → n ≤ m → maxTo n f ≤ maxTo m f
-top-grow {n} f l = top-at-most n (λ i h. top-above f i (omega arith))
 
 -- maxWhere
 
@@ -126,9 +104,6 @@ pub peak-at-most : (n : ℕ) (t : ℕ → Bool) {b : ℕ} {f : ℕ → ℕ} → 
 unfolding maxWhere
 peak-at-most n t h = top-at-most n (λ i l. cond-le (t i) (h i l) (λ _. omega arith))
 
-pub peak-none : (n : ℕ) (t : ℕ → Bool) (f : ℕ → ℕ) → ((i : ℕ) → i < n → t i ≡ false) → maxWhere n t f ≡ 0
-peak-none n t f h = omega (arith, peak-at-most n t {b = 0} {f = f} (λ i l p. absurd (clash p (h i l))))
-
 -- something passes: one that passes attains it
 pub peak-attained : {n : ℕ} (t : ℕ → Bool) (f : ℕ → ℕ) (k : ℕ) → k < n → t k ≡ true → Peak n t f (maxWhere n t f)
 unfolding maxWhere
@@ -148,22 +123,11 @@ pub peak-cong : (n : ℕ) {t u : ℕ → Bool} {f g : ℕ → ℕ} → ((i : ℕ
 unfolding maxWhere
 peak-cong n h e = top-cong n (λ i l. cond-cong (h i l) (e i l) (λ _. refl))
 
-pub peak-mono : (n : ℕ) (t u : ℕ → Bool) {f g : ℕ → ℕ} → ((i : ℕ) → i < n → t i ≡ true → u i ≡ true) → ((i : ℕ) → i < n → t i ≡ true → f i ≤ g i) → maxWhere n t f ≤ maxWhere n u g
-unfolding maxWhere
-peak-mono n t u h e = top-mono n (λ i l. cond-mono (t i) (u i) (h i l) (e i l))
-
 pub peak-scale : (n k : ℕ) (t : ℕ → Bool) (f : ℕ → ℕ) → k * maxWhere n t f ≡ maxWhere n t (λ i. k * f i)
 unfolding maxWhere
 peak-scale n k t f = top-scale n k (λ i. cond (t i) (f i) 0) ∙ top-cong n (λ i l. cond-scale k (t i) (f i))
 
-pub peak-le-top : (n : ℕ) (t : ℕ → Bool) (f : ℕ → ℕ) → maxWhere n t f ≤ maxTo n f
-peak-le-top n t f = peak-at-most n t (λ i l p. top-above f i l)
-
 -- minTo
-
-pub low-zero : (f : ℕ → ℕ) → minTo 0 f ≡ 0
-unfolding minTo
-low-zero f = refl
 
 pub low-one : (f : ℕ → ℕ) → minTo 1 f ≡ f 0
 unfolding minTo
@@ -196,58 +160,10 @@ low-attained {n = suc (suc k)} f l =
     (λ s. record { index = suc k; below = le-refl _; value = omega arith; under = low-under f })
     (λ s. record { index = r .index; below = omega arith; value = omega (arith, r .value); under = low-under f })
 
--- the greatest lower bound
-pub low-at-least : {n b : ℕ} {f : ℕ → ℕ} → 0 < n → ((i : ℕ) → i < n → b ≤ f i) → b ≤ minTo n f
-low-at-least {f = f} l h = let r = low-attained f l in omega (arith, h (r .index) (r .below), r .value)
-
-pub low-unique : {n : ℕ} {f : ℕ → ℕ} {l : ℕ} → Low n f l → l ≡ minTo n f
-low-unique {f = f} r = le-antisymm (low-at-least (omega arith) (r .under)) (omega (arith, low-under f (r .index) (r .below)))
-
 pub low-cong : (n : ℕ) {f g : ℕ → ℕ} → ((i : ℕ) → i < n → f i ≡ g i) → minTo n f ≡ minTo n g
 unfolding minTo
 low-cong zero h = refl
 low-cong (suc zero) h = h 0 (le-refl _)
 low-cong (suc (suc k)) h = ap₂ min (low-cong (suc k) (lower h)) (h (suc k) (le-refl _))
 
-pub low-mono : (n : ℕ) {f g : ℕ → ℕ} → ((i : ℕ) → i < n → f i ≤ g i) → minTo n f ≤ minTo n g
-unfolding minTo
-low-mono zero h = le-refl 0
-low-mono (suc zero) h = h 0 (le-refl _)
-low-mono (suc (suc k)) h = omega (arith, low-mono (suc k) (lower h), h (suc k) (le-refl _))
-
-pub low-scale : (n k : ℕ) (f : ℕ → ℕ) → k * minTo n f ≡ minTo n (λ i. k * f i)
-unfolding minTo
-low-scale zero k f = mul-zero k
-low-scale (suc n) k f =
-    let r = low-attained {n = suc n} f (omega arith) in
-    low-unique
-    (record {
-      index = r .index;
-      below = r .below;
-      value = ap (λ v. k * v) (r .value);
-      under = λ i l. mul-le-mul-left k (low-under f i l);
-    })
-
 -- a running least: the first value, one that is not less, one that is not greater
-
-pub low-first : (f : ℕ → ℕ) → Low 1 f (f 0)
-unfolding minTo
-low-first f = low-attained f (le-refl 1)
-
-pub low-more : {k l : ℕ} {f : ℕ → ℕ} → Low k f l → l ≤ f k → Low (k + 1) f l
-low-more {k} {l} {f} r h =
-    record {
-      index = r .index;
-      below = omega arith;
-      value = r .value;
-      under = below-more (λ i. l ≤ f i) k (r .under) h;
-    }
-
-pub low-fall : {k l : ℕ} {f : ℕ → ℕ} → Low k f l → f k ≤ l → Low (k + 1) f (f k)
-low-fall {k} {l} {f} r h =
-    record {
-      index = k;
-      below = omega arith;
-      value = refl;
-      under = below-more (λ i. f k ≤ f i) k (λ i m. omega (arith, r .under i m)) (le-refl _);
-    }

@@ -5,6 +5,7 @@ pub mod Sums
 pub mod Where
 pub mod Counts
 pub mod Fibres
+pub mod Moves
 pub mod Lists
 pub mod Extremes
 pub mod Chosen

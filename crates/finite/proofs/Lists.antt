@@ -1,19 +1,17 @@
 -- Laws of lists made by index, of a list lent from its middle, of the search through all lists of a length, and of two-byte numbers.
 -- Assumes nothing.
 use Prim.Native.Nat.{ℕ, zero, suc, _+_, _-_, _≤_, _<_}
-use mathlib.Core.Bool.{Bool, true, false, cond}
+use mathlib.Core.Bool.{Bool, true, false}
 use mathlib.Core.List.{List, [], _∷_, _++_, append-assoc, append-nil}
 use mathlib.Core.Path.{_≡_, refl, sym, ap, ap₂, _∙_}
 use native.Mathlib.Nat.{le-refl, le-of-eq}
 use native.Mathlib.Numerals.{add-one}
 use native.Mathlib.Omega.{arith}
-use lib.Dec.{eqb}
-use borrow.Author.Tests.{ne-eqb}
-use lib.ListN.{length, getD, take, drop, set, replicate, length-append, length-drop, length-set, length-replicate, getD-replicate, take-append-drop, drop-of-length-le, List·getD-append}
-use lib.Seq.{ext-getD, sets, sets-eq, take-at, drop-drop, drop-append-add, take-suc, take-suc-set, take-all, getD-take, getD-at, getD-set-same, getD-set-other, length-take-le}
-use Rattle.finite.specs.Lists.{tabulate, someList, wordAt}
-use Rattle.finite.proofs.Tests.{clash, bool-eq, fails-of, not-yes, cond-false, eqb-same}
-use Rattle.finite.proofs.Below.{none-below, by-top, lower, by-same}
+use lib.ListN.{length, getD, take, drop, set, replicate, length-append, length-drop, length-replicate, getD-replicate, take-append-drop, drop-of-length-le, List·getD-append}
+use lib.Seq.{ext-getD, sets, sets-eq, take-at, drop-drop, drop-append-add, take-suc, take-suc-set, take-all, getD-take, getD-at, length-take-le}
+use Rattle.finite.specs.Lists.{tabulate, Picks, someList}
+use Rattle.finite.proofs.Tests.{clash, bool-eq, fails-of, not-yes}
+use Rattle.finite.proofs.Below.{none-below, by-top, lower}
 use Rattle.finite.proofs.Search.{any-intro, any-elim}
 
 -- tabulate
@@ -49,18 +47,8 @@ pub tab-ext : (n : ℕ) (f : ℕ → ℕ) (xs : List ℕ) → length xs ≡ n �
 tab-ext n f xs e h =
     ext-getD 0 xs (tabulate n f) (e ∙ sym (tab-length n f)) (λ i l. let l′ : i < n = rw e at l in h i l′ ∙ sym (tab-at f i 0 l′))
 
-pub tab-self : (xs : List ℕ) → xs ≡ tabulate (length xs) (λ i. getD xs i 0)
-tab-self xs = tab-ext (length xs) (λ i. getD xs i 0) xs refl (λ i l. refl)
-
 pub tab-const : (n v : ℕ) → replicate n v ≡ tabulate n (λ i. v)
 tab-const n v = tab-ext n (λ i. v) (replicate n v) (length-replicate n v) (λ i l. getD-replicate n i v 0 l)
-
-pub tab-set : {n : ℕ} (f : ℕ → ℕ) (k v : ℕ) → k < n → set (tabulate n f) k v ≡ tabulate n (λ i. cond (eqb i k) v (f i))
-tab-set {n} f k v l =
-    tab-ext n (λ i. cond (eqb i k) v (f i)) (set (tabulate n f) k v) (length-set (tabulate n f) k v ∙ tab-length n f) λ i m.
-    by-same i k
-    (λ e. rw (e, eqb-same k) (getD-set-same (tabulate n f) k v 0 (rw (tab-length n f) l)))
-    (λ ne. getD-set-other (tabulate n f) k i v 0 ne ∙ tab-at f i 0 m ∙ sym (cond-false v (f i) (ne-eqb i k ne)))
 
 pub tab-take : {n m : ℕ} (f : ℕ → ℕ) → n ≤ m → take n (tabulate m f) ≡ tabulate n f
 tab-take {n} {m} f l =
@@ -110,12 +98,6 @@ stretch-on done ws lent f e long size room =
     rw (sets-eq ws (done ++ drop f lent) f fits, size, take-at done (drop f lent) f long, after)
 
 -- someList
-
--- y has m entries, from 1 to n
-pub record Picks (n m : ℕ) (y : List ℕ) : Type 0 where
-  pub size : length y ≡ m
-  pub positive : (c : ℕ) → c < m → 0 < getD y c 0
-  pub bounded : (c : ℕ) → c < m → getD y c 0 ≤ n
 
 -- a list of m numbers from 1 to n that passes
 pub record SomePicks (n m : ℕ) (t : List ℕ → Bool) : Type 0 where
@@ -178,11 +160,3 @@ list-cong n m t u h =
     (λ e. let r = list-elim n m u e in list-intro t (r .picks) (h (r .list) (r .picks) ∙ r .passes))
 
 -- wordAt
-
-pub word-bound : (xs : List ℕ) (i : ℕ) → getD xs i 0 < 256 → getD xs (i + 1) 0 < 256 → wordAt xs i < 65536
-unfolding wordAt
-word-bound xs i h l = omega arith
-
-pub word-cong : (xs ys : List ℕ) (i j : ℕ) → getD xs i 0 ≡ getD ys j 0 → getD xs (i + 1) 0 ≡ getD ys (j + 1) 0 → wordAt xs i ≡ wordAt ys j
-unfolding wordAt
-word-cong xs ys i j h l = omega arith

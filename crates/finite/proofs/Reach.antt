@@ -1,16 +1,15 @@
 -- Laws of reachability in rounds.
 -- Assumes nothing.
-use Prim.Native.Nat.{ℕ, zero, suc, _+_, _≤_, _<_}
-use mathlib.Core.Bool.{Bool, true, false, _&&_, _||_}
-use mathlib.Core.Path.{_≡_, refl, ap, ap₂, _∙_}
-use native.Mathlib.Numerals.{add-one}
+use Prim.Native.Nat.{ℕ, zero, suc, _≤_, _<_}
+use mathlib.Core.Bool.{Bool, true, false, _&&_}
+use mathlib.Core.Path.{_≡_, refl, _∙_}
 use native.Mathlib.Omega.{arith}
 use Rattle.finite.specs.Sums.{countTo}
 use Rattle.finite.specs.Search.{anyBelow}
 use Rattle.finite.specs.Reach.{reach}
 use Rattle.finite.proofs.Tests.{by-test, clash, bool-eq, and-elim, and-intro, or-cases, or-left, or-right}
 use Rattle.finite.proofs.Below.{by-less}
-use Rattle.finite.proofs.Search.{any-elim, any-intro, any-cong}
+use Rattle.finite.proofs.Search.{any-elim, any-intro}
 use Rattle.finite.proofs.Counts.{count-le, count-strict}
 
 -- i is linked to a place that t rounds reach
@@ -24,14 +23,6 @@ module _ (n : ℕ) (start : ℕ → Bool) (link : ℕ → ℕ → Bool) where
   pub reach-zero : (i : ℕ) → reach n start link 0 i ≡ start i
   unfolding reach
   reach-zero i = refl
-
-  pub reach-suc : (t i : ℕ) → reach n start link (suc t) i ≡ (reach n start link t i || anyBelow n (λ j. reach n start link t j && link i j))
-  unfolding reach
-  reach-suc t i = refl
-
-  pub reach-next : (t i : ℕ) → reach n start link (t + 1) i ≡ (reach n start link t i || anyBelow n (λ j. reach n start link t j && link i j))
-  unfolding reach
-  reach-next t i = ap (λ s. reach n start link s i) (add-one t)
 
   -- what is reached stays reached
   pub reach-kept : (t i : ℕ) → reach n start link t i ≡ true → reach n start link (suc t) i ≡ true
@@ -109,19 +100,3 @@ module _ (n : ℕ) (start : ℕ → Bool) (link : ℕ → ℕ → Bool) where
 
   pub reach-still-eq : (t : ℕ) → ((i : ℕ) → i < n → reach n start link (suc t) i ≡ true → reach n start link t i ≡ true) → (i : ℕ) → i < n → reach n start link t i ≡ reach n start link n i
   reach-still-eq t still i l = bool-eq (reach-all t i l) (reach-still t still n i l)
-
--- equal starts and links below n
-pub reach-cong : (n : ℕ) {start start′ : ℕ → Bool} {link link′ : ℕ → ℕ → Bool} → ((i : ℕ) → i < n → start i ≡ start′ i) → ((i j : ℕ) → i < n → j < n → link i j ≡ link′ i j) → (t i : ℕ) → i < n → reach n start link t i ≡ reach n start′ link′ t i
-unfolding reach
-reach-cong n e f zero i l = e i l
-reach-cong n e f (suc t) i l =
-    ap₂ _||_ (reach-cong n e f t i l) (any-cong n (λ j k. ap₂ _&&_ (reach-cong n e f t j k) (f i j l k)))
-
--- more starts and more links reach no less
-pub reach-wider : (n : ℕ) (start start′ : ℕ → Bool) (link link′ : ℕ → ℕ → Bool) → ((i : ℕ) → i < n → start i ≡ true → start′ i ≡ true) → ((i j : ℕ) → i < n → j < n → link i j ≡ true → link′ i j ≡ true) → (t i : ℕ) → i < n → reach n start link t i ≡ true → reach n start′ link′ t i ≡ true
-unfolding reach
-reach-wider n s s′ k k′ e f zero i l h = e i l h
-reach-wider n s s′ k k′ e f (suc t) i l h =
-    reach-cases n s k t i h
-    (λ old. reach-kept n s′ k′ t i (reach-wider n s s′ k k′ e f t i l old))
-    (λ v. reach-step n s′ k′ t i (v .next) (v .below) (reach-wider n s s′ k k′ e f t (v .next) (v .below) (v .reached)) (f i (v .next) l (v .below) (v .linked)))

@@ -1,28 +1,16 @@
 -- Laws of the tests and searches over the numbers below a bound.
 -- Assumes nothing.
 use Prim.Native.Nat.{ℕ, zero, suc, _+_, _≤_, _<_}
-use mathlib.Core.Bool.{Bool, true, false, not, _&&_, _||_}
+use mathlib.Core.Bool.{Bool, true, false, _&&_, _||_}
 use mathlib.Core.Path.{_≡_, refl, sym, ap, ap₂, _∙_}
 use native.Mathlib.Nat.{le-refl, le-antisymm, lt-of-lt-of-le, lt-of-le-of-lt}
 use native.Mathlib.Numerals.{add-one}
 use native.Mathlib.Omega.{arith}
 use lib.Dec.{ltb}
 use borrow.Author.Tests.{ltb-true, ltb-false, lt-ltb, le-ltb}
-use Rattle.finite.specs.Search.{anyBelow, allBelow, firstStep, firstBelow, First}
-use Rattle.finite.proofs.Tests.{by-cond, clash, bool-eq, fails-of, not-yes, and-elim, and-intro, and-cases, or-cases, or-left, or-right, not-and, not-or}
+use Rattle.finite.specs.Search.{anyBelow, allBelow, firstStep, firstBelow, Hit, Miss, First}
+use Rattle.finite.proofs.Tests.{by-cond, clash, bool-eq, fails-of, not-yes, and-elim, and-intro, and-cases, or-cases, or-left, or-right}
 use Rattle.finite.proofs.Below.{none-below, by-top, lower, by-less}
-
--- some number below n passes
-pub record Hit (n : ℕ) (t : ℕ → Bool) : Type 0 where
-  pub index : ℕ
-  pub below : index < n
-  pub passes : t index ≡ true
-
--- some number below n fails
-pub record Miss (n : ℕ) (t : ℕ → Bool) : Type 0 where
-  pub index : ℕ
-  pub below : index < n
-  pub fails : t index ≡ false
 
 -- anyBelow
 
@@ -58,12 +46,6 @@ pub any-cong : (n : ℕ) {t u : ℕ → Bool} → ((i : ℕ) → i < n → t i �
 unfolding anyBelow
 any-cong zero h = refl
 any-cong (suc k) h = ap₂ _||_ (any-cong k (lower h)) (h k (le-refl _))
-
-pub any-mono : (n : ℕ) (t u : ℕ → Bool) → ((i : ℕ) → i < n → t i ≡ true → u i ≡ true) → anyBelow n t ≡ true → anyBelow n u ≡ true
-any-mono n t u h e = let r = any-elim n t e in any-intro u (r .index) (r .below) (h (r .index) (r .below) (r .passes))
-
-pub any-more : {n m : ℕ} (t : ℕ → Bool) → n ≤ m → anyBelow n t ≡ true → anyBelow m t ≡ true
-any-more {n} t le e = let r = any-elim n t e in any-intro t (r .index) (lt-of-lt-of-le (r .below) le) (r .passes)
 
 -- allBelow
 
@@ -103,21 +85,8 @@ unfolding allBelow
 all-cong zero h = refl
 all-cong (suc k) h = ap₂ _&&_ (all-cong k (lower h)) (h k (le-refl _))
 
-pub all-mono : (n : ℕ) (t u : ℕ → Bool) → ((i : ℕ) → i < n → t i ≡ true → u i ≡ true) → allBelow n t ≡ true → allBelow n u ≡ true
-all-mono n t u h e = all-intro n u (λ i l. h i l (all-elim n t e i l))
-
 pub all-fewer : {n m : ℕ} (t : ℕ → Bool) → n ≤ m → allBelow m t ≡ true → allBelow n t ≡ true
 all-fewer {n} {m} t le e = all-intro n t (λ i l. all-elim m t e i (lt-of-lt-of-le l le))
-
-pub not-any : (n : ℕ) (t : ℕ → Bool) → not (anyBelow n t) ≡ allBelow n (λ i. not (t i))
-unfolding anyBelow allBelow
-not-any zero t = refl
-not-any (suc k) t = not-or (anyBelow k t) (t k) ∙ ap (λ b. b && not (t k)) (not-any k t)
-
-pub not-all : (n : ℕ) (t : ℕ → Bool) → not (allBelow n t) ≡ anyBelow n (λ i. not (t i))
-unfolding anyBelow allBelow
-not-all zero t = refl
-not-all (suc k) t = not-and (allBelow k t) (t k) ∙ ap (λ b. b || not (t k)) (not-all k t)
 
 -- firstBelow
 
@@ -128,14 +97,6 @@ first-zero t = refl
 pub first-next : (k : ℕ) (t : ℕ → Bool) → firstBelow (k + 1) t ≡ firstStep k (t k) (firstBelow k t)
 unfolding firstBelow
 first-next k t = ap (λ n. firstBelow n t) (add-one k)
-
-pub first-kept : (k : ℕ) (t : ℕ → Bool) → firstBelow k t < k → firstBelow (k + 1) t ≡ firstBelow k t
-unfolding firstStep
-first-kept k t l = rw (first-next, lt-ltb (firstBelow k t) k l)
-
-pub first-hit : (k : ℕ) (t : ℕ → Bool) → firstBelow k t ≡ k → t k ≡ true → firstBelow (k + 1) t ≡ k
-unfolding firstStep
-first-hit k t e h = rw (first-next, e, le-ltb k k (le-refl k), h)
 
 pub first-miss : (k : ℕ) (t : ℕ → Bool) → firstBelow k t ≡ k → t k ≡ false → firstBelow (k + 1) t ≡ k + 1
 unfolding firstStep
@@ -184,9 +145,6 @@ first-unique {n} {t} {r} f =
     (λ l. absurd (clash (first-passes n t (lt-of-lt-of-le l (omega arith))) (f .before (firstBelow n t) l)))
     (λ l. le-antisymm (first-least n t r (f .passes)) l)
 
-pub First-unique : {n : ℕ} {t : ℕ → Bool} {r s : ℕ} → First n t r → First n t s → r ≡ s
-First-unique f g = sym (first-unique f) ∙ first-unique g
-
 pub First-cong : {n : ℕ} {t u : ℕ → Bool} {r : ℕ} → ((i : ℕ) → i < n → t i ≡ u i) → First n t r → First n u r
 First-cong {r = r} h f =
     record {
@@ -209,11 +167,6 @@ First-stop {n} {i} t e h l = record { below = l; passes = h; before = first-none
 
 pub first-stop : {n i : ℕ} (t : ℕ → Bool) → firstBelow i t ≡ i → t i ≡ true → i < n → firstBelow n t ≡ i
 first-stop t e h l = first-unique (First-stop t e h l)
-
--- a first below n is the first below any greater bound
-pub first-more : {n m : ℕ} (t : ℕ → Bool) → n ≤ m → firstBelow n t < n → firstBelow m t ≡ firstBelow n t
-first-more {n} {m} t le l =
-    first-unique (record { below = lt-of-lt-of-le l le; passes = first-passes n t l; before = first-before n t })
 
 pub any-first : (n : ℕ) (t : ℕ → Bool) → anyBelow n t ≡ ltb (firstBelow n t) n
 any-first n t =

@@ -2,31 +2,19 @@
 -- Assumes nothing.
 use Prim.Native.Nat.{ℕ, zero, suc, _+_, _*_, _≤_, _<_}
 use mathlib.Core.Path.{_≡_, refl, sym, ap, ap₂, _∙_}
-use native.Mathlib.Nat.{le-refl, le-antisymm, add-zero, add-suc, mul-zero, zero-mul, suc-mul, mul-add}
+use native.Mathlib.Nat.{le-refl, add-zero, add-suc, mul-zero, zero-mul, suc-mul, mul-add}
 use native.Mathlib.Numerals.{add-one}
 use native.Mathlib.Omega.{arith}
-use mathlib.Core.Bool.{cond}
-use lib.Dec.{eqb}
-use borrow.Author.Tests.{ne-eqb}
 use Rattle.finite.specs.Sums.{sumTo}
-use Rattle.finite.proofs.Tests.{cond-true, cond-false, eqb-same}
-use Rattle.finite.proofs.Below.{none-below, by-top, lower, by-less, by-same}
+use Rattle.finite.proofs.Below.{none-below, by-top, lower, by-less}
 
 pub sum-zero : (f : ℕ → ℕ) → sumTo 0 f ≡ 0
 unfolding sumTo
 sum-zero f = refl
 
-pub sum-suc : (k : ℕ) (f : ℕ → ℕ) → sumTo (suc k) f ≡ sumTo k f + f k
-unfolding sumTo
-sum-suc k f = refl
-
 pub sum-next : (k : ℕ) (f : ℕ → ℕ) → sumTo (k + 1) f ≡ sumTo k f + f k
 unfolding sumTo
 sum-next k f = ap (λ n. sumTo n f) (add-one k)
-
-pub sum-one : (f : ℕ → ℕ) → sumTo 1 f ≡ f 0
-unfolding sumTo
-sum-one f = omega arith
 
 pub sum-cong : (n : ℕ) {f g : ℕ → ℕ} → ((c : ℕ) → c < n → f c ≡ g c) → sumTo n f ≡ sumTo n g
 unfolding sumTo
@@ -46,11 +34,6 @@ sum-strict {n = suc j} {f} {g} h k l s =
     let top : f j ≤ g j = h j (le-refl _) in
     by-top l (λ e. let here : f j < g j = rw e at s in omega (arith, sum-mono j (lower h)))
     (λ l′. omega (arith, sum-strict (lower h) k l′ s))
-
--- the first sum is the least that it may be only where all are equal
-pub sum-tight : (n : ℕ) {f g : ℕ → ℕ} → ((c : ℕ) → c < n → f c ≤ g c) → sumTo n g ≤ sumTo n f → (c : ℕ) → c < n → f c ≡ g c
-sum-tight n {f} {g} h e c l =
-    by-less (f c) (g c) (λ s. absurd (omega (arith, sum-strict h c l s))) (λ s. le-antisymm (h c l) s)
 
 pub sum-add : (n : ℕ) (f g : ℕ → ℕ) → sumTo n (λ c. f c + g c) ≡ sumTo n f + sumTo n g
 unfolding sumTo
@@ -85,17 +68,6 @@ sum-change {n = suc j} {f} {g} k l h =
     (λ e. rw e (omega (arith, sum-cong j {f = f} {g = g} (λ c m. h c (omega arith) (λ q. omega arith)))))
     (λ l′. let top : f j ≡ g j = h j (le-refl _) (λ q. omega arith) in omega (arith, sum-change {n = j} {f = f} {g = g} k l′ (λ c m. h c (omega arith))))
 
--- two changed points
-pub sum-change-two : {n : ℕ} (f g : ℕ → ℕ) (i j : ℕ) → i < n → j < n → (i ≡ j → ⊥) → ((c : ℕ) → c < n → (c ≡ i → ⊥) → (c ≡ j → ⊥) → f c ≡ g c) → sumTo n f + (g i + g j) ≡ sumTo n g + (f i + f j)
-sum-change-two {n} f g i j li lj ne h =
-    let m : ℕ → ℕ = λ c. cond (eqb c i) (g i) (f c) in
-    let here : m i ≡ g i = cond-true (g i) (f i) (eqb-same i) in
-    let there : m j ≡ f j = cond-false (g i) (f j) (ne-eqb j i (λ e. ne (sym e))) in
-    let one : sumTo n f + m i ≡ sumTo n m + f i = sum-change i li (λ c l nc. sym (cond-false (g i) (f c) (ne-eqb c i nc))) in
-    let two : sumTo n m + g j ≡ sumTo n g + m j =
-    sum-change j lj (λ c l nc. by-same c i (λ e. rw (e, eqb-same i)) (λ nd. cond-false (g i) (f c) (ne-eqb c i nd) ∙ h c l nd nc)) in
-    omega arith
-
 -- only one point counts
 pub sum-single : {n : ℕ} (f : ℕ → ℕ) (k : ℕ) → k < n → ((c : ℕ) → c < n → (c ≡ k → ⊥) → f c ≡ 0) → sumTo n f ≡ f k
 sum-single {n} f k l h =
@@ -106,15 +78,6 @@ pub sum-point : {n : ℕ} (f : ℕ → ℕ) (k : ℕ) → k < n → f k ≤ sumT
 unfolding sumTo
 sum-point {n = zero} f k l = none-below l
 sum-point {n = suc j} f k l = by-top l (λ e. rw e (omega arith)) (λ l′. omega (arith, sum-point f k l′))
-
--- two different points
-pub sum-two : {n : ℕ} (f : ℕ → ℕ) (i j : ℕ) → i < n → j < n → (i ≡ j → ⊥) → f i + f j ≤ sumTo n f
-unfolding sumTo
-sum-two {n = zero} f i j li lj ne = none-below li
-sum-two {n = suc k} f i j li lj ne =
-    by-top li
-    (λ ei. rw ei (by-top lj (λ ej. absurd (ne (ei ∙ sym ej))) (λ lj′. omega (arith, sum-point f j lj′))))
-    (λ li′. by-top lj (λ ej. rw ej (omega (arith, sum-point f i li′))) (λ lj′. omega (arith, sum-two f i j li′ lj′ ne)))
 
 -- some point below n where f is less than g
 pub record Less (n : ℕ) (f g : ℕ → ℕ) : Type 0 where
@@ -131,20 +94,9 @@ sum-less (suc k) f g h =
     let r = sum-less k f g (omega arith) in
     record { index = r .index; below = omega arith; less = r .less }
 
-pub sum-positive : (n : ℕ) (f : ℕ → ℕ) → 0 < sumTo n f → Less n (λ c. 0) f
-sum-positive n f h = sum-less n (λ c. 0) f (rw (sum-none n {f = λ c. 0} (λ c l. refl)) h)
-
 -- more than b each on the whole: some point is above b
 pub sum-above : (n b : ℕ) (f : ℕ → ℕ) → n * b < sumTo n f → Less n (λ c. b) f
 sum-above n b f h = sum-less n (λ c. b) f (rw (sum-const n b) h)
-
--- less than b each on the whole: some point is under b
-pub sum-under : (n b : ℕ) (f : ℕ → ℕ) → sumTo n f < n * b → Less n f (λ c. b)
-sum-under n b f h = sum-less n f (λ c. b) (rw (sum-const n b) h)
-
--- a sum of 0 has points of 0
-pub sum-empty : (n : ℕ) (f : ℕ → ℕ) → sumTo n f ≡ 0 → (c : ℕ) → c < n → f c ≡ 0
-sum-empty n f e c l = omega (arith, sum-point f c l)
 
 pub sum-swap : (n m : ℕ) (f : ℕ → ℕ → ℕ) → sumTo n (λ i. sumTo m (λ c. f i c)) ≡ sumTo m (λ c. sumTo n (λ i. f i c))
 unfolding sumTo
@@ -155,8 +107,3 @@ pub sum-split : (n m : ℕ) (f : ℕ → ℕ) → sumTo (n + m) f ≡ sumTo n f 
 unfolding sumTo
 sum-split n zero f = rw (add-zero n) (omega arith)
 sum-split n (suc k) f = rw add-suc (omega (arith, sum-split n k f))
-
-pub sum-grow : {n m : ℕ} (f : ℕ → ℕ) → n ≤ m → sumTo n f ≤ sumTo m f
-unfolding sumTo
-sum-grow {n} {m = zero} f l = let z : n ≡ 0 = omega arith in rw z (le-refl _)
-sum-grow {n} {m = suc k} f l = by-less k n (λ h. let z : n ≡ suc k = omega arith in rw z (le-refl _)) (λ h. omega (arith, sum-grow f h))

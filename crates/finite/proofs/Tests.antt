@@ -1,11 +1,12 @@
--- Laws of Boolean tests: cases with the equation kept, and, or, not, cond.
+-- Laws of Boolean tests: cases with the equation kept, and, or, not, comparisons, cond.
 -- Assumes nothing.
-use Prim.Native.Nat.{ℕ, _*_, _≤_, zero-le}
+use Prim.Native.Nat.{ℕ, suc, _*_, _≤_, _<_, zero-le}
 use mathlib.Core.Bool.{Bool, true, false, cond, not, _&&_, _||_, true≢false, false≢true}
 use mathlib.Core.Path.{_≡_, refl, sym, _∙_}
-use native.Mathlib.Nat.{mul-zero}
-use lib.Dec.{eqb}
-use borrow.Author.Tests.{eqb-true, eq-eqb}
+use native.Mathlib.Nat.{mul-zero, mul-le-mul-left, mul-lt-mul-of-pos-left, le-of-mul-le-mul-left, lt-of-mul-lt-mul-left}
+use native.Mathlib.Omega.{arith}
+use lib.Dec.{eqb, leb, ltb}
+use borrow.Author.Tests.{eq-eqb, leb-true, le-leb}
 
 -- cases on a test
 pub by-test {ℓ} : {A : Type ℓ} (b : Bool) → (b ≡ true → A) → (b ≡ false → A) → A
@@ -94,21 +95,34 @@ not-on h = rw h
 pub not-off : {b : Bool} → b ≡ true → not b ≡ false
 not-off h = rw h
 
-pub not-and : (a b : Bool) → not (a && b) ≡ (not a || not b)
-not-and true b = refl
-not-and false b = refl
-
-pub not-or : (a b : Bool) → not (a || b) ≡ (not a && not b)
-not-or true b = refl
-not-or false b = refl
+pub not-not : (b : Bool) → not (not b) ≡ b
+not-not true = refl
+not-not false = refl
 
 -- equality of numbers as a test
 
 pub eqb-same : (a : ℕ) → eqb a a ≡ true
 eqb-same a = eq-eqb a a refl
 
-pub eqb-sym : (a b : ℕ) → eqb a b ≡ eqb b a
-eqb-sym a b = bool-eq (λ e. eq-eqb b a (sym (eqb-true a b e))) (λ e. eq-eqb a b (sym (eqb-true b a e)))
+-- comparison of numbers as a test
+
+leb-same : (a b c d : ℕ) → (a ≤ b → c ≤ d) → (c ≤ d → a ≤ b) → leb a b ≡ leb c d
+leb-same a b c d f g =
+    bool-eq (λ e. le-leb c d (f (leb-true a b e))) (λ e. le-leb a b (g (leb-true c d e)))
+
+-- two numbers, each k times, are two others, each l times: they compare alike
+module _ {k l : ℕ} (a b c d : ℕ) (e : k * a ≡ l * c) (f : k * b ≡ l * d) (pk : 0 < k) (pl : 0 < l) where
+  pub leb-scaled : leb a b ≡ leb c d
+  leb-scaled =
+      leb-same a b c d
+      (λ h. le-of-mul-le-mul-left {k = l} (omega (arith, mul-le-mul-left k h)) pl)
+      (λ h. le-of-mul-le-mul-left {k = k} (omega (arith, mul-le-mul-left l h)) pk)
+
+  pub ltb-scaled : ltb a b ≡ ltb c d
+  ltb-scaled =
+      leb-same (suc a) b (suc c) d
+      (λ h. lt-of-mul-lt-mul-left l (omega (arith, mul-lt-mul-of-pos-left h pk)))
+      (λ h. lt-of-mul-lt-mul-left k (omega (arith, mul-lt-mul-of-pos-left h pl)))
 
 -- cond
 
@@ -123,11 +137,6 @@ pub cond-same {ℓ} : {A : Type ℓ} (b : Bool) (x : A) → cond b x x ≡ x
 cond-same true x = refl
 cond-same false x = refl
 
--- a function taken into the arms
-pub cond-map {ℓ κ} : {A : Type ℓ} {B : Type κ} (f : A → B) (b : Bool) (x y : A) → f (cond b x y) ≡ cond b (f x) (f y)
-cond-map f true x y = refl
-cond-map f false x y = refl
-
 -- equal tests, and arms equal where they are taken
 pub cond-cong {ℓ} : {A : Type ℓ} {a b : Bool} {x y u v : A} → a ≡ b → (b ≡ true → x ≡ u) → (b ≡ false → y ≡ v) → cond a x y ≡ cond b u v
 cond-cong {b = b} {x} {y} {u} {v} e hit miss = rw e (by-test b (λ h. rw h (hit h)) (λ h. rw h (miss h)))
@@ -135,10 +144,6 @@ cond-cong {b = b} {x} {y} {u} {v} e hit miss = rw e (by-test b (λ h. rw h (hit 
 pub cond-not {ℓ} : {A : Type ℓ} (b : Bool) (x y : A) → cond (not b) x y ≡ cond b y x
 cond-not true x y = refl
 cond-not false x y = refl
-
-pub cond-and {ℓ} : {A : Type ℓ} (a b : Bool) (x y : A) → cond (a && b) x y ≡ cond a (cond b x y) y
-cond-and true b x y = refl
-cond-and false b x y = refl
 
 pub cond-le : (b : Bool) {x y z : ℕ} → (b ≡ true → x ≤ z) → (b ≡ false → y ≤ z) → cond b x y ≤ z
 cond-le b {x} {y} {z} = by-cond (λ v. v ≤ z) b x y

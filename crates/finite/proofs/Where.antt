@@ -1,7 +1,7 @@
 -- Laws of sums over the numbers below a bound that pass a test.
 -- Assumes nothing.
-use Prim.Native.Nat.{ℕ, suc, _+_, _*_, _≤_, _<_}
-use mathlib.Core.Bool.{Bool, true, false, cond, not, _&&_, _||_}
+use Prim.Native.Nat.{ℕ, _+_, _*_, _≤_, _<_}
+use mathlib.Core.Bool.{Bool, true, false, cond, not, _&&_}
 use mathlib.Core.Path.{_≡_, refl, sym, _∙_}
 use native.Mathlib.Nat.{le-refl, add-zero}
 use native.Mathlib.Omega.{arith}
@@ -9,15 +9,11 @@ use lib.Dec.{eqb}
 use borrow.Author.Tests.{ne-eqb}
 use Rattle.finite.specs.Sums.{sumTo, sumWhere}
 use Rattle.finite.proofs.Tests.{by-test, clash, cond-true, cond-false, cond-cong, cond-mono, cond-scale, cond-same, and-no-right, not-on, not-off, eqb-same}
-use Rattle.finite.proofs.Sums.{sum-next, sum-cong, sum-mono, sum-strict, sum-tight, sum-add, sum-scale, sum-none, sum-change, sum-single, sum-point, sum-two, sum-less, sum-swap, sum-grow}
+use Rattle.finite.proofs.Sums.{sum-next, sum-cong, sum-mono, sum-strict, sum-add, sum-scale, sum-none, sum-change, sum-single, sum-point, sum-less}
 
 pub where-zero : (t : ℕ → Bool) (f : ℕ → ℕ) → sumWhere 0 t f ≡ 0
 unfolding sumWhere sumTo
 where-zero t f = refl
-
-pub where-suc : (k : ℕ) (t : ℕ → Bool) (f : ℕ → ℕ) → sumWhere (suc k) t f ≡ sumWhere k t f + cond (t k) (f k) 0
-unfolding sumWhere sumTo
-where-suc k t f = refl
 
 pub where-next : (k : ℕ) (t : ℕ → Bool) (f : ℕ → ℕ) → sumWhere (k + 1) t f ≡ sumWhere k t f + cond (t k) (f k) 0
 unfolding sumWhere
@@ -63,20 +59,9 @@ pub where-strict-test : {n : ℕ} (t u : ℕ → Bool) (f : ℕ → ℕ) → ((c
 unfolding sumWhere
 where-strict-test t u f h k l p q s = sum-strict (λ c m. cond-mono (t c) (u c) (h c m) (λ _. le-refl _)) k l (rw (p, q) s)
 
--- equal sums with values at most the others: equal where the test passes
-pub where-tight : (n : ℕ) (t : ℕ → Bool) {f g : ℕ → ℕ} → ((c : ℕ) → c < n → t c ≡ true → f c ≤ g c) → sumWhere n t g ≤ sumWhere n t f → (c : ℕ) → c < n → t c ≡ true → f c ≡ g c
-unfolding sumWhere
-where-tight n t {f} {g} e h c l p =
-    let q = sum-tight n {f = λ c. cond (t c) (f c) 0} {g = λ c. cond (t c) (g c) 0} (λ c m. cond-mono (t c) (t c) (λ q. q) (e c m)) h c l in
-    rw p at q
-
 pub where-point : {n : ℕ} (t : ℕ → Bool) (f : ℕ → ℕ) (k : ℕ) → k < n → t k ≡ true → f k ≤ sumWhere n t f
 unfolding sumWhere
 where-point t f k l p = rw p at (sum-point (λ c. cond (t c) (f c) 0) k l)
-
-pub where-two : {n : ℕ} (t : ℕ → Bool) (f : ℕ → ℕ) (i j : ℕ) → i < n → j < n → (i ≡ j → ⊥) → t i ≡ true → t j ≡ true → f i + f j ≤ sumWhere n t f
-unfolding sumWhere
-where-two t f i j li lj ne p q = rw (p, q) at (sum-two (λ c. cond (t c) (f c) 0) i j li lj ne)
 
 -- no value counts where the test passes
 pub where-zeros : (n : ℕ) (t : ℕ → Bool) {f : ℕ → ℕ} → ((c : ℕ) → c < n → t c ≡ true → f c ≡ 0) → sumWhere n t f ≡ 0
@@ -93,19 +78,6 @@ where-all n t f h = sum-cong n (λ c l. cond-true (f c) 0 (h c l))
 pub where-le-sum : (n : ℕ) (t : ℕ → Bool) (f : ℕ → ℕ) → sumWhere n t f ≤ sumTo n f
 unfolding sumWhere
 where-le-sum n t f = sum-mono n (λ c l. cond-mono (t c) true (λ _. refl) (λ _. le-refl _))
-
-pub where-grow : {n m : ℕ} (t : ℕ → Bool) (f : ℕ → ℕ) → n ≤ m → sumWhere n t f ≤ sumWhere m t f
-unfolding sumWhere
-where-grow t f l = sum-grow (λ c. cond (t c) (f c) 0) l
-
-pub where-add : (n : ℕ) (t : ℕ → Bool) (f g : ℕ → ℕ) → sumWhere n t (λ c. f c + g c) ≡ sumWhere n t f + sumWhere n t g
-unfolding sumWhere
-where-add n t f g =
-    sum-cong n (λ c l. point (t c) (f c) (g c)) ∙ sum-add n (λ c. cond (t c) (f c) 0) (λ c. cond (t c) (g c) 0)
-  where
-    point : (b : Bool) (x y : ℕ) → cond b (x + y) 0 ≡ cond b x 0 + cond b y 0
-    point true x y = refl
-    point false x y = refl
 
 pub where-scale : (n k : ℕ) (t : ℕ → Bool) (f : ℕ → ℕ) → sumWhere n t (λ c. k * f c) ≡ k * sumWhere n t f
 unfolding sumWhere
@@ -132,16 +104,6 @@ where-split n t u f =
 -- those that pass and those that fail
 pub where-not : (n : ℕ) (t : ℕ → Bool) (f : ℕ → ℕ) → sumTo n f ≡ sumWhere n t f + sumWhere n (λ c. not (t c)) f
 where-not n t f = sym (where-all n (λ c. true) f (λ c l. refl)) ∙ where-split n (λ c. true) t f
-
--- two tests that never pass together
-pub where-or : (n : ℕ) (t u : ℕ → Bool) (f : ℕ → ℕ) → ((c : ℕ) → c < n → t c && u c ≡ false) → sumWhere n (λ c. t c || u c) f ≡ sumWhere n t f + sumWhere n u f
-unfolding sumWhere
-where-or n t u f h =
-    sum-cong n (λ c l. point (t c) (u c) (f c) (h c l)) ∙ sum-add n (λ c. cond (t c) (f c) 0) (λ c. cond (u c) (f c) 0)
-  where
-    point : (a b : Bool) (x : ℕ) → a && b ≡ false → cond (a || b) x 0 ≡ cond a x 0 + cond b x 0
-    point true b x e = rw e (omega arith)
-    point false b x e = omega arith
 
 -- tests that differ at one point
 pub where-change : {n : ℕ} (t u : ℕ → Bool) (f : ℕ → ℕ) (k : ℕ) → k < n → t k ≡ false → u k ≡ true → ((c : ℕ) → c < n → (c ≡ k → ⊥) → t c ≡ u c) → sumWhere n u f ≡ sumWhere n t f + f k
@@ -194,12 +156,3 @@ where-positive n t f h = where-less n t (λ c. 0) f (rw (where-zeros n t {f = λ
 -- a sum of 0 has passing points of 0
 pub where-empty : (n : ℕ) (t : ℕ → Bool) (f : ℕ → ℕ) → sumWhere n t f ≡ 0 → (c : ℕ) → c < n → t c ≡ true → f c ≡ 0
 where-empty n t f e c l p = omega (arith, where-point t f c l p)
-
--- a sum of parts, part by part
-pub where-swap : (n m : ℕ) (t : ℕ → Bool) (f : ℕ → ℕ → ℕ) → sumTo n (λ i. sumWhere m t (λ c. f i c)) ≡ sumWhere m t (λ c. sumTo n (λ i. f i c))
-unfolding sumWhere
-where-swap n m t f = sum-swap n m (λ i c. cond (t c) (f i c) 0) ∙ sum-cong m (λ c l. point (t c) (λ i. f i c))
-  where
-    point : (b : Bool) (g : ℕ → ℕ) → sumTo n (λ i. cond b (g i) 0) ≡ cond b (sumTo n g) 0
-    point true g = refl
-    point false g = sum-none n (λ i l. refl)

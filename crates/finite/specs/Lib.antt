@@ -3,3 +3,4 @@ pub mod Search
 pub mod Lists
 pub mod Reach
 pub mod Bits
+pub mod Moves

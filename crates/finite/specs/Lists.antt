@@ -1,14 +1,21 @@
 -- Lists made by index, and all lists of a length over the numbers from 1 to n.
-use Prim.Native.Nat.{ℕ, zero, suc, _*_, _+_}
+use Prim.Native.Nat.{ℕ, zero, suc, _*_, _+_, _≤_, _<_}
 use mathlib.Core.Bool.{Bool}
 use mathlib.Core.List.{List, [], _∷_, _++_}
-use lib.ListN.{getD}
+use mathlib.Core.Path.{_≡_}
+use lib.ListN.{length, getD}
 use Rattle.finite.specs.Search.{anyBelow}
 
 -- f 0, .., f (n - 1)
 unfoldable pub tabulate : ℕ → (ℕ → ℕ) → List ℕ
 tabulate zero f = []
 tabulate (suc k) f = tabulate k f ++ (f k ∷ [])
+
+-- y has m entries, from 1 to n
+pub record Picks (n m : ℕ) (y : List ℕ) : Type 0 where
+  pub size : length y ≡ m
+  pub positive : (c : ℕ) → c < m → 0 < getD y c 0
+  pub bounded : (c : ℕ) → c < m → getD y c 0 ≤ n
 
 -- some list of m numbers from 1 to n passes
 unfoldable pub someList : ℕ → ℕ → (List ℕ → Bool) → Bool

@@ -27,6 +27,18 @@ firstBelow (suc k) t = firstStep k (t k) (firstBelow k t)
 unfoldable pub chosen : ℕ → (ℕ → Bool) → (ℕ → ℕ → Bool) → ℕ
 chosen n t better = firstBelow n (λ i. t i && not (anyBelow n (λ j. t j && better j i)))
 
+-- some number below n passes
+pub record Hit (n : ℕ) (t : ℕ → Bool) : Type 0 where
+  pub index : ℕ
+  pub below : index < n
+  pub passes : t index ≡ true
+
+-- some number below n fails
+pub record Miss (n : ℕ) (t : ℕ → Bool) : Type 0 where
+  pub index : ℕ
+  pub below : index < n
+  pub fails : t index ≡ false
+
 -- r is below n, passes, and nothing before it does: what a search establishes when it finds
 pub record First (n : ℕ) (t : ℕ → Bool) (r : ℕ) : Type 0 where
   pub below : r < n

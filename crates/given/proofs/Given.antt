@@ -1,30 +1,26 @@
 -- Laws of what both checks are given.
 -- Assumes nothing.
-use Prim.Native.Nat.{ℕ, suc, _+_, _≤_, _<_}
-use mathlib.Core.Bool.{Bool, true, false, cond, not, _&&_}
+use Prim.Native.Nat.{ℕ, _+_, _≤_, _<_}
+use mathlib.Core.Bool.{Bool, true, false, not, _&&_}
 use mathlib.Core.List.{List}
-use mathlib.Core.Path.{_≡_, refl, sym, _∙_}
+use mathlib.Core.Path.{_≡_, sym, _∙_}
 use native.Mathlib.Omega.{arith}
 use lib.Dec.{eqb, leb, ltb}
 use lib.ListN.{length, getD}
 use borrow.Author.Tests.{eqb-true, eq-eqb, ne-eqb, lt-ltb, le-ltb, le-leb, lt-leb, not-false}
+use Rattle.finite.specs.Lists.{Picks}
 use Rattle.finite.proofs.Tests.{and-intro, and-no-left, and-no-right}
 use Rattle.finite.proofs.Search.{all-zero, all-next, all-fails-intro}
-use Rattle.finite.proofs.Lists.{Picks}
 use Rattle.model.specs.Instance.{cost, ownerOf}
 use Rattle.model.specs.Sheet.{agentsOf, choresOf, easyWeight, difficultWeight, marksEasy, asMarked}
 use Rattle.model.specs.Fairness.{ownersInRange}
-use Rattle.model.specs.Refusals.{sheetRefusal, ownersRefusal}
+use Rattle.model.specs.Refusals.{_orElse_, sheetRefusal, ownersRefusal}
 use Rattle.sheet.specs.Readers.{InSheet}
+use Rattle.sheet.proofs.OrElse.{when-none, peel}
 use Rattle.sheet.proofs.Refusal.{valid}
-use Rattle.welfare.proofs.Allocations.{entry-range}
+use Rattle.model.proofs.Allocations.{entry-range}
 use Rattle.welfare.proofs.Costs.{cost-easy, cost-difficult}
 use Rattle.given.specs.Given.{Given, Weighed, Owned, Costed, Cost}
-
--- a refusal in front that did not turn down
-peel : (t : Bool) (k x : ℕ) → cond t (suc k) x ≡ 0 → (t ≡ false) × (x ≡ 0)
-peel true k x e = absurd (omega arith)
-peel false k x e = (refl, e)
 
 -- entries from 1 to a limit: what one more entry adds, and what one entry out of range spoils
 
@@ -54,23 +50,23 @@ module _ (n : ℕ) (owners : List ℕ) (c : ℕ) where
 -- the refusals of a list of owners, and what 0 means
 module _ (n m : ℕ) (owners : List ℕ) where
   pub refused-size : (length owners ≡ m → ⊥) → ownersRefusal n m owners ≡ 6
-  unfolding ownersRefusal
+  unfolding ownersRefusal _orElse_
   refused-size h = rw (ne-eqb (length owners) m h)
 
   module _ (size : length owners ≡ m) where
     pub refused-range : ownersInRange n m owners ≡ false → ownersRefusal n m owners ≡ 7
-    unfolding ownersRefusal
+    unfolding ownersRefusal _orElse_
     refused-range e = rw (eq-eqb (length owners) m size, e)
 
     pub owners-fine : ownersInRange n m owners ≡ true → ownersRefusal n m owners ≡ 0
-    unfolding ownersRefusal
+    unfolding ownersRefusal _orElse_
     owners-fine e = rw (eq-eqb (length owners) m size, e)
 
   pub owners-judged : ownersRefusal n m owners ≡ 0 → (length owners ≡ m) × (ownersInRange n m owners ≡ true)
   unfolding ownersRefusal
   owners-judged e =
       let size = peel (not (eqb (length owners) m)) 5 _ e in
-      (eqb-true (length owners) m (not-false _ (size .0)), not-false _ (peel (not (ownersInRange n m owners)) 6 0 (size .1) .0))
+      (eqb-true (length owners) m (not-false _ (size .0)), not-false _ (when-none _ 6 (size .1)))
 
 -- what both refusals being 0 gives
 pub given : (s owners : List ℕ) (n m : ℕ) → sheetRefusal s ≡ 0 → n ≡ agentsOf s → m ≡ choresOf s → ownersRefusal n m owners ≡ 0 → Given s owners n m

@@ -14,12 +14,8 @@ fn list_refusal(sheet: &[u8], owners: &[u8], lent: usize) -> u8
     }
     let n = sheet::agents(sheet);
     let m = sheet::chores(sheet);
-    let of_owners = given::owners_refusal(owners, n, m);
-    let of_lent = sheet::lent_refusal(m, lent);
-    if of_owners != 0 {
-        return of_owners;
-    }
-    of_lent
+    let refusal = given::owners_refusal(owners, n, m);
+    sheet::or_else(refusal, sheet::lent_refusal(m, lent))
 }
 
 // Unfair agents come first: waste is looked for in an even list only. The lent list is written with `Wasteful` alone.

@@ -12,7 +12,7 @@ use Rattle.finite.proofs.Below.{by-top, by-same}
 use Rattle.finite.proofs.Sums.{sum-at-most}
 use Rattle.finite.proofs.Where.{where-zero, where-hit, where-miss, where-le-sum}
 use Rattle.finite.proofs.Extremes.{peak-zero, peak-miss, peak-keep, peak-raise}
-use Rattle.model.specs.Limits.{maxPrice}
+use Rattle.model.specs.Limits.{maxAgents, maxPrice}
 use Rattle.model.specs.Instance.{ownerOf, priceOf}
 use Rattle.model.specs.Fairness.{owns, total}
 use Rattle.model.specs.Prices.{priceSum, dearest, priceUpToOne}
@@ -22,7 +22,7 @@ use Rattle.market.specs.Adding.{Added, Topped, TopsOff}
 use Rattle.market.specs.Results.{Summed}
 
 -- lists of zeros are the sums of no chores
-pub added-none : {n j k : ℕ} (owners prices : List ℕ) {sums tops : List ℕ} → n ≤ 32 → j ≡ 32 → k ≡ 32
+pub added-none : {n j k : ℕ} (owners prices : List ℕ) {sums tops : List ℕ} → n ≤ maxAgents → j ≡ maxAgents → k ≡ maxAgents
     → sums ≡ replicate j 0 → tops ≡ replicate k 0 → Added n 0 owners prices sums tops
 unfolding total dearest
 added-none {j = j} {k} owners prices l e f s t =
@@ -41,8 +41,8 @@ module _ {n m : ℕ} {owners prices : List ℕ} (h : Held n m owners prices) (c 
   owner-below : owner owners c < n
   owner-below = omega (arith, h .numbered c below, h .known c below)
 
-  -- the owner has a place in lists of 32
-  pub owner-room : owner owners c < 32
+  -- the owner has a place in the lists
+  pub owner-room : owner owners c < maxAgents
   owner-room = omega (arith, owner-below, h .agents)
 
   module _ {sums tops : List ℕ} (a : Added n c owners prices sums tops) where
@@ -102,7 +102,7 @@ module _ {n m : ℕ} {owners prices : List ℕ} (h : Held n m owners prices) (c 
         }
 
 -- the dearest is part of the sum
-pub topped : {n m : ℕ} {owners prices sums tops : List ℕ} → n ≤ 32 → Added n m owners prices sums tops → Topped n sums tops
+pub topped : {n m : ℕ} {owners prices sums tops : List ℕ} → n ≤ maxAgents → Added n m owners prices sums tops → Topped n sums tops
 topped {m = m} {owners} {prices} l a =
     record {
       agents = l;

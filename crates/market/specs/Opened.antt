@@ -18,7 +18,7 @@ pub record OpenOn (s : List ℕ) (n m : ℕ) : Type 0 where
 pub record OpenIn (s : List ℕ) (n m all c : ℕ) : Type 0 where
   pub on : OpenOn s n m
   pub chore : c < m
-  pub liberal : SetOf n all (allDifficult s)
+  pub allDifficultRows : SetOf n all (allDifficult s)
 
 -- an entry for each chore in each list that the opening fills
 pub record OpenInto (s : List ℕ) (n m : ℕ) (owners prices likes : List ℕ) : Type 0 where

@@ -5,6 +5,7 @@ ghost use Prim.Native.Nat.{ℕ, _*_, _/_, _≤_, _<_};
 ghost use lib.ListN.{length, getD};
 ghost use Rattle.finite.specs.Bits.{bit};
 ghost use Rattle.finite.specs.Lists.{tabulate};
+ghost use Rattle.model.specs.Limits.{maxAgents};
 ghost use Rattle.model.specs.Instance.{ownerOf};
 ghost use Rattle.market.specs.Cutting.{Cutting, CutPrices};
 use crate::words::has;
@@ -33,7 +34,7 @@ pub fn cut_prices(
 
 // The agents of the set become a group.
 pub fn cut_groups(groups: &mut [u8], reached: u32, number: u8)
-    requires { ⌜ length (now groups) ≤ 32 ⌝ }
+    requires { ⌜ length (now groups) ≤ maxAgents ⌝ }
     ensures { λ r. ⌜ now (groups .exit) ≡ tabulate (length (now (groups .entry))) (λ i. cond (bit reached i) number (getD (now (groups .entry)) i 0)) ⌝ }
 {
     let mut i = 0;

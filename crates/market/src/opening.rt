@@ -2,6 +2,7 @@
 ghost use Prim.Native.Nat.{_≤_};
 ghost use mathlib.Core.Bool.{true};
 ghost use Rattle.finite.specs.Bits.{SetOf};
+ghost use Rattle.model.specs.Limits.{maxAgents};
 ghost use Rattle.model.specs.Sheet.{asRead, allDifficult};
 ghost use Rattle.market.specs.Opened.{OpenOn, OpenIn, OpenInto, Opened};
 use crate::words::has;
@@ -9,7 +10,7 @@ use crate::words::lowest;
 use crate::words::with;
 
 // The agents whose row is all difficult, which is read as all easy.
-pub fn liberal(sheet: &[u8], n: usize, m: usize) -> u32
+pub fn all_difficult_rows(sheet: &[u8], n: usize, m: usize) -> u32
     requires { ⌜ OpenOn (now sheet) n m ⌝ }
     ensures { λ r. ⌜ SetOf n r (allDifficult (now (sheet .entry))) ⌝ }
 {
@@ -42,7 +43,7 @@ fn easy_for(sheet: &[u8], n: usize, m: usize, all: u32, c: usize) -> u32
 
 // Everybody.
 fn everyone(n: usize) -> u32
-    requires { ⌜ n ≤ 32 ⌝ }
+    requires { ⌜ n ≤ maxAgents ⌝ }
     ensures { λ r. ⌜ SetOf n r (λ i. true) ⌝ }
 {
     let mut w = 0u32;
@@ -68,7 +69,7 @@ pub fn open(
 {
     let a = sheet::easy_weight(sheet);
     let b = sheet::difficult_weight(sheet);
-    let all = liberal(sheet, n, m);
+    let all = all_difficult_rows(sheet, n, m);
     let anyone = everyone(n);
     let mut c = 0;
     while c < m {

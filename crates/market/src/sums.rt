@@ -6,6 +6,7 @@ ghost use lib.Dec.{eqb, ltb};
 ghost use Rattle.finite.specs.Bits.{SetOf};
 ghost use Rattle.finite.specs.Sums.{minTo};
 ghost use Rattle.finite.specs.Search.{anyBelow};
+ghost use Rattle.model.specs.Limits.{maxAgents};
 ghost use Rattle.market.specs.Market.{Held, groupOf};
 ghost use Rattle.market.specs.Results.{Summed};
 ghost use Rattle.market.specs.Adding.{Summing, Added, Topped, TopsOff};
@@ -75,20 +76,20 @@ pub fn least_of(n: usize, sums: &[u32]) -> u32
     least
 }
 
-// The agents whose sum is the least.
+// The agents whose sum is the least, all of them: the search starts from these.
 pub fn of_sum(n: usize, sums: &[u32], least: u32) -> u32
-    requires { ⌜ (n ≤ 32) × (n ≤ length (now sums)) ⌝ }
+    requires { ⌜ (n ≤ maxAgents) × (n ≤ length (now sums)) ⌝ }
     ensures { λ r. ⌜ SetOf n r (λ i. eqb (getD (now (sums .entry)) i 0) least) ⌝ }
 {
-    let mut w = 0u32;
+    let mut start = 0u32;
     let mut i = 0;
     while i < n {
         if sums[i] == least {
-            w = with(w, i);
+            start = with(start, i);
         }
         i += 1;
     }
-    w
+    start
 }
 
 pub fn any_above(n: usize, ups: &[u32], least: u32) -> bool
@@ -107,7 +108,7 @@ pub fn any_above(n: usize, ups: &[u32], least: u32) -> bool
 
 // The agents in no group.
 pub fn others(groups: &[u8]) -> u32
-    requires { ⌜ length (now groups) ≤ 32 ⌝ }
+    requires { ⌜ length (now groups) ≤ maxAgents ⌝ }
     ensures { λ r. ⌜ SetOf (length (now (groups .entry))) r (λ i. eqb (groupOf (now (groups .entry)) i) 0) ⌝ }
 {
     let mut w = 0u32;
@@ -123,7 +124,7 @@ pub fn others(groups: &[u8]) -> u32
 
 // The agents in some group.
 pub fn members(groups: &[u8]) -> u32
-    requires { ⌜ length (now groups) ≤ 32 ⌝ }
+    requires { ⌜ length (now groups) ≤ maxAgents ⌝ }
     ensures { λ r. ⌜ SetOf (length (now (groups .entry))) r (λ i. ltb 0 (groupOf (now (groups .entry)) i)) ⌝ }
 {
     let mut w = 0u32;

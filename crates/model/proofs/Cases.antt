@@ -1,70 +1,26 @@
--- The forms of the cases in the table, and what it is for the definitions to meet one.
+-- What antt computes for a case is what it is for the definitions to meet it.
 -- Assumes nothing.
-use Prim.Native.Nat.{ℕ, _/_, _%_}
-use Prim.Native.Char.{code}
-use Prim.Native.String as S
-use Prim.Native.String.{String}
-use mathlib.Core.Bool.{true}
-use mathlib.Core.List.{List, [], _∷_, _++_}
-use mathlib.Core.Path.{_≡_, refl}
+use Prim.Native.Nat.{ℕ}
+use mathlib.Core.Bool.{Bool, true, false, not, _&&_}
+use mathlib.Core.List.{List, [], _∷_}
+use mathlib.Core.Path.{_≡_, refl, sym, _∙_}
 use native.Mathlib.Omega.{arith}
-use lib.ListN.{length}
-use Rattle.model.specs.Instance.{ownerOf}
+use lib.Dec.{eqb}
+use lib.ListN.{getD}
+use lib.Seq.{ext-getD}
+use borrow.Author.Tests.{eqb-true, not-false}
+use Rattle.finite.specs.Search.{anyBelow}
+use Rattle.finite.specs.Lists.{someList}
+use Rattle.finite.proofs.Tests.{and-rest}
+use Rattle.finite.proofs.Search.{any-none}
+use Rattle.finite.proofs.Lists.{list-none}
+use Rattle.model.specs.Instance.{Instance, ownerOf}
 use Rattle.model.specs.Sheet.{asMarked, asRead}
-use Rattle.model.specs.Fairness.{dominates}
-use Rattle.model.specs.Algorithm.{State, Outcome, busy, done, lacking, after, Ends}
+use Rattle.model.specs.Fairness.{dominates, isAllocation}
+use Rattle.model.specs.Algorithm.{Outcome, busy, done, lacking, after}
 use Rattle.model.specs.Refusals.{sheetRefusal}
-use Rattle.model.specs.Replies.{Reply}
-use Rattle.model.specs.Verdicts.{listCheck, priceCheck}
-
-unfoldable pub marks : String → List ℕ
-marks S.[] = []
-marks (S._∷_ c t) = code c ∷ marks t
-
-unfoldable pub allMarks : List String → List ℕ
-allMarks [] = []
-allMarks (row ∷ rows) = marks row ++ allMarks rows
-
-unfoldable pub firstRow : List String → List ℕ
-firstRow [] = []
-firstRow (row ∷ rows) = marks row
-
--- the bytes of a sheet: its weights, and a row of marks for each agent
-unfoldable pub sheet : ℕ → ℕ → List String → List ℕ
-sheet a b rows =
-    length rows ∷ length (firstRow rows) ∷ a / 256 ∷ a % 256 ∷ b / 256 ∷ b % 256 ∷ allMarks rows
-
-pub data Case : Type 0 where
-  -- the share-out of a sheet: its owners, prices, moves and cuts
-  shared-out : List ℕ → List ℕ → List ℕ → ℕ → ℕ → Case
-  -- a sheet's refusal number
-  turned-down : List ℕ → ℕ → Case
-  -- the list check's answer on a sheet and a list, with enough lent
-  listed : List ℕ → List ℕ → Reply → Case
-  -- on a sheet, a list, and a list that is shown to dominate it
-  shown : List ℕ → List ℕ → List ℕ → Case
-  -- the price check's answer on a sheet, a list and prices
-  priced : List ℕ → List ℕ → List ℕ → Reply → Case
-
--- Algorithm 1 ends on the sheet with these owners, prices, moves and cuts.
-pub record Shares (s owners prices : List ℕ) (moves cuts : ℕ) : Type 0 where
-  pub final : State
-  pub ends : Ends (asRead s) final
-  pub owners-are : final .owners ≡ owners
-  pub prices-are : final .prices ≡ prices
-  pub moves-are : final .moves ≡ moves
-  pub cuts-are : final .cuts ≡ cuts
-
-unfoldable pub Meets : Case → Type 0
-Meets (shared-out s owners prices moves cuts) = Shares s owners prices moves cuts
-Meets (turned-down s k) = sheetRefusal s ≡ k
-Meets (listed s owners answer) = listCheck s owners (length owners) ≡ answer
-Meets (shown s owners other) = dominates (asMarked s) (ownerOf other) (ownerOf owners) ≡ true
-Meets (priced s owners prices answer) = priceCheck s owners prices ≡ answer
-
-unfoldable pub MeetsAll : List Case → Type 0
-MeetsAll [] = Unit {0}
-MeetsAll (c ∷ cs) = Meets c × MeetsAll cs
+use Rattle.model.specs.Cases.{Case, shared-out, judged, lent, listed, shown, priced, Shares, Meets, MeetsAll}
+use Rattle.model.proofs.Allocations.{allocation-picks}
 
 -- what an outcome shows of a run that has ended
 pub data Seen : Type 0 where
@@ -76,24 +32,37 @@ seen (busy x) = unended
 seen (done x) = ended (x .owners) (x .prices) (x .moves) (x .cuts)
 seen (lacking x) = unended
 
+-- some chore has another owner in y than in z
+unfoldable pub differs : ℕ → List ℕ → List ℕ → Bool
+differs m y z = anyBelow m (λ c. not (eqb (getD y c 0) (getD z c 0)))
+
+-- y dominates x, and is not z
+unfoldable pub dominatesToo : Instance → List ℕ → List ℕ → List ℕ → Bool
+dominatesToo I x z y = dominates I (ownerOf y) (ownerOf x) && differs (I .m) y z
+
 -- what antt computes for a case; `enough` steps end each run of the table
 unfoldable pub Computed : ℕ → Case → Type 0
-Computed enough (shared-out s owners prices moves cuts) = seen (after (asRead s) enough) ≡ ended owners prices moves cuts
-Computed enough (turned-down s k) = Meets (turned-down s k)
+Computed enough (shared-out s owners prices moves cuts) = (sheetRefusal s ≡ 0) × (seen (after (asRead s) enough) ≡ ended owners prices moves cuts)
+Computed enough (judged s k) = Meets (judged s k)
+Computed enough (lent s owners prices scratch k) = Meets (lent s owners prices scratch k)
 Computed enough (listed s owners answer) = Meets (listed s owners answer)
-Computed enough (shown s owners other) = Meets (shown s owners other)
+Computed enough (shown s owners other) =
+    (isAllocation (asMarked s) other ≡ true)
+    × (dominates (asMarked s) (ownerOf other) (ownerOf owners) ≡ true)
+    × (someList (asMarked s .n) (asMarked s .m) (dominatesToo (asMarked s) owners other) ≡ false)
 Computed enough (priced s owners prices answer) = Meets (priced s owners prices answer)
 
 unfoldable pub ComputedAll : ℕ → List Case → Type 0
 ComputedAll enough [] = Unit {0}
 ComputedAll enough (c ∷ cs) = Computed enough c × ComputedAll enough cs
 
-ran : (s owners prices : List ℕ) (moves cuts k : ℕ) (o : Outcome) → after (asRead s) k ≡ o → seen o ≡ ended owners prices moves cuts → Shares s owners prices moves cuts
+ran : (s owners prices : List ℕ) (moves cuts k : ℕ) (o : Outcome) → sheetRefusal s ≡ 0 → after (asRead s) k ≡ o → seen o ≡ ended owners prices moves cuts → Shares s owners prices moves cuts
 unfolding seen
-ran s owners prices moves cuts k (busy x) e q = let z : _≡_ {A = ℕ} 0 1 = cc in absurd (omega arith)
-ran s owners prices moves cuts k (lacking x) e q = let z : _≡_ {A = ℕ} 0 1 = cc in absurd (omega arith)
-ran s owners prices moves cuts k (done x) e q =
+ran s owners prices moves cuts k (busy x) z e q = let z : _≡_ {A = ℕ} 0 1 = cc in absurd (omega arith)
+ran s owners prices moves cuts k (lacking x) z e q = let z : _≡_ {A = ℕ} 0 1 = cc in absurd (omega arith)
+ran s owners prices moves cuts k (done x) z e q =
     record {
+      taken = z;
       final = x;
       ends = record { steps = k; ends = e };
       owners-are = cc;
@@ -102,12 +71,28 @@ ran s owners prices moves cuts k (done x) e q =
       cuts-are = cc;
     }
 
+-- a search through all lists finds no other list that dominates
+no-other : (I : Instance) (x z y : List ℕ) → someList (I .n) (I .m) (dominatesToo I x z) ≡ false → isAllocation I z ≡ true → isAllocation I y ≡ true → dominates I (ownerOf y) (ownerOf x) ≡ true → y ≡ z
+unfolding dominatesToo differs
+no-other I x z y none hz hy d =
+    let Y = allocation-picks I y hy in
+    let Z = allocation-picks I z hz in
+    let same = and-rest (differs (I .m) y z) (list-none (dominatesToo I x z) none Y) d in
+    ext-getD 0 y z (Y .size ∙ sym (Z .size)) λ c l.
+    eqb-true (getD y c 0) (getD z c 0) (not-false _ (any-none (I .m) (λ c. not (eqb (getD y c 0) (getD z c 0))) same c (rw (Y .size) at l)))
+
 met : (enough : ℕ) (c : Case) → Computed enough c → Meets c
 unfolding Computed Meets
-met enough (shared-out s owners prices moves cuts) h = ran s owners prices moves cuts enough (after (asRead s) enough) refl h
-met enough (turned-down s k) h = h
+met enough (shared-out s owners prices moves cuts) h = ran s owners prices moves cuts enough (after (asRead s) enough) (h .0) refl (h .1)
+met enough (judged s k) h = h
+met enough (lent s owners prices scratch k) h = h
 met enough (listed s owners answer) h = h
-met enough (shown s owners other) h = h
+met enough (shown s owners other) h =
+    record {
+      allocation = h .0;
+      dominating = h .1;
+      only = λ y. no-other (asMarked s) owners other y (h .2) (h .0);
+    }
 met enough (priced s owners prices answer) h = h
 
 pub met-all : (enough : ℕ) (cs : List Case) → ComputedAll enough cs → MeetsAll cs

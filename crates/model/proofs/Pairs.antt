@@ -17,10 +17,6 @@ pub record FirstPair (n : ℕ) (t : ℕ → ℕ → Bool) (i j : ℕ) : Type 0 w
   pub before : (l : ℕ) → l < j → t i l ≡ false
 
 module _ (n : ℕ) (t : ℕ → ℕ → Bool) where
-  pub pair-some : (i j : ℕ) → i < n → j < n → t i j ≡ true → firstOfPair n t < n
-  unfolding firstOfPair
-  pair-some i j l k h = first-some (λ i. anyBelow n (λ j. t i j)) i l (any-intro (λ j. t i j) j k h)
-
   pub pair-found : firstOfPair n t < n → FirstPair n t (firstOfPair n t) (secondOfPair n t)
   unfolding firstOfPair secondOfPair
   pair-found l =

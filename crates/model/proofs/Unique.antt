@@ -2,10 +2,9 @@
 -- Assumes nothing.
 use Prim.Native.Nat.{ℕ, zero, suc, _+_}
 use native.Mathlib.Nat.{add-comm, add-suc, add-zero}
-use native.Mathlib.Omega.{arith}
 use mathlib.Core.Path.{_≡_, sym, ap, _∙_}
 use Rattle.model.specs.Instance.{Instance}
-use Rattle.model.specs.Algorithm.{State, done, lacking, next, after}
+use Rattle.model.specs.Algorithm.{State, done, next, after}
 
 module _ (I : Instance) where
   -- one step more changes nothing
@@ -15,10 +14,6 @@ module _ (I : Instance) where
   done-settled : (k : ℕ) (s : State) → after I k ≡ done s → Settled k
   unfolding Settled next
   done-settled k s e = ap (next I) e ∙ sym e
-
-  lacking-settled : (k : ℕ) (s : State) → after I k ≡ lacking s → Settled k
-  unfolding Settled next
-  lacking-settled k s e = ap (next I) e ∙ sym e
 
   stays : (j k : ℕ) → Settled k → after I (k + j) ≡ after I k
   unfolding Settled after
@@ -30,8 +25,3 @@ module _ (I : Instance) where
 
   pub unique : (j k : ℕ) (s t : State) → after I j ≡ done s → after I k ≡ done t → s ≡ t
   unique j k s t d e = cc (agree j k (done-settled j s d) (done-settled k t e))
-
-  pub never-lacks : (j k : ℕ) (s t : State) → after I j ≡ done s → after I k ≡ lacking t → ⊥
-  never-lacks j k s t d e =
-      let z : _≡_ {A = ℕ} 0 1 = cc (agree j k (done-settled j s d) (lacking-settled k t e)) in
-      omega arith

@@ -9,7 +9,7 @@ use Rattle.model.specs.Sheet.{choresOf}
 use Rattle.model.specs.Contents.{sheetCount, sheetOf}
 use Rattle.model.specs.Algorithm.{State}
 use Rattle.model.specs.Refusals.{sheetRefusal}
-use Rattle.model.specs.Replies.{Reply, refused, sharedAt}
+use Rattle.model.specs.Replies.{Reply, refused, sharedAt, absent}
 
 module _ (book : List ℕ) where
   -- "then each sheet's own number"
@@ -29,12 +29,12 @@ module _ (book : List ℕ) where
   firstEntry j = sumTo j entriesOf
 
   module _ (finals : ℕ → State) where
-    -- "For each sheet the call tells either its refusal number or its moves, cuts and first entry"; 9 for a sheet that the book does not have
+    -- "For each sheet the call tells either its refusal number or its moves, cuts and first entry"; nothing from the count on
     unfoldable pub sheetAnswer : ℕ → Reply
     sheetAnswer j =
         cond (ltb j (sheetCount book))
         (cond (takesSheet j) (sharedAt (finals j .moves) (finals j .cuts) (firstEntry j)) (refused (ownRefusal j)))
-        (refused 9)
+        absent
 
     -- what the first j sheets write into one of the long lists, where `written` is what the share-out of one sheet writes
     unfoldable pub stretches : (State → List ℕ) → ℕ → List ℕ

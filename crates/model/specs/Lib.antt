@@ -12,3 +12,5 @@ pub mod Replies
 pub mod Verdicts
 pub mod Book
 pub mod Promises
+pub mod Cases
+pub mod Starred

@@ -1,15 +1,14 @@
 -- What each public call promises, refused or not. In each record plain names are the lists as handed in, and primed ones the same memory when
 -- the call returns. `sheet_refusal` promises `r ≡ sheetRefusal sheet`, and the price check, which lends nothing, `PricesChecked`.
-use Prim.Native.Nat.{ℕ, _<_, _-_}
+use Prim.Native.Nat.{ℕ, _≤_, _<_, _-_}
 use mathlib.Core.Bool.{true, false, cond}
 use mathlib.Core.List.{List, []}
 use mathlib.Core.Path.{_≡_}
 use lib.Dec.{eqb}
-use lib.ListN.{length, getD, take, drop, replicate}
+use lib.ListN.{length, take, drop, replicate}
 use Rattle.model.specs.declared.ShareOut.{ShareOut}
 use Rattle.model.specs.declared.ListVerdict.{ListVerdict}
 use Rattle.model.specs.declared.PriceVerdict.{PriceVerdict}
-use Rattle.model.specs.declared.SheetResult.{SheetResult}
 use Rattle.model.specs.declared.BookResult.{BookResult}
 use Rattle.model.specs.Instance.{ownerOf}
 use Rattle.model.specs.Sheet.{agentsOf, choresOf, asMarked, asRead}
@@ -17,7 +16,7 @@ use Rattle.model.specs.Contents.{sheetCount, sheetOf}
 use Rattle.model.specs.Fairness.{ef1, dominates, isAllocation}
 use Rattle.model.specs.Algorithm.{State, lacking, after, Ends}
 use Rattle.model.specs.Refusals.{allocateRefusal, lookupRefusal, bookRefusal}
-use Rattle.model.specs.Replies.{Reply, refused, shared, wasteful, accepted, shareOutReply, listReply, priceReply, sheetReply}
+use Rattle.model.specs.Replies.{Reply, refused, shared, absent, holds, wasteful, accepted, shareOutReply, listReply, priceReply, replyAt}
 use Rattle.model.specs.Verdicts.{listCheck, priceCheck}
 use Rattle.model.specs.Book.{takesSheet, sheetAnswer, longList, tallyOf}
 
@@ -25,6 +24,8 @@ use Rattle.model.specs.Book.{takesSheet, sheetAnswer, longList, tallyOf}
 pub record Demand3 (s : List ℕ) (final : State) : Type 0 where
   -- it "runs Algorithm 1 to its end"
   pub ends : Ends (asRead s) final
+  -- and that is the only state in which Algorithm 1 ends
+  pub only : (x : State) → Ends (asRead s) x → x ≡ final
   -- "cuts ≤ people - 1"
   pub cuts : final .cuts < agentsOf s
   -- "no step lacks its reel"
@@ -80,14 +81,22 @@ pub record ListChecked (s owners lent lent′ : List ℕ) (r : ListVerdict) : Ty
 -- The price check: `check_prices(sheet, owners, prices)`.
 pub record PricesChecked (s owners prices : List ℕ) (r : PriceVerdict) : Type 0 where
   pub answer : priceReply r ≡ priceCheck s owners prices
+  -- "An accepted list also holds, whoever proposed the prices."
+  pub holding : priceReply r ≡ accepted → (lent : ℕ) → choresOf s ≤ lent → listCheck s owners lent ≡ holds
 
--- The lookup of a sheet by its number: the part of the book that is handed back, no bytes where the lookup is refused.
+-- The part of the book that a lookup hands back: "its bytes are handed back as that stretch of the book", and no bytes where it is refused,
+-- since "the number is all that is returned".
 unfoldable pub lookup : List ℕ → ℕ → List ℕ
 lookup book number = cond (eqb (lookupRefusal book number) 0) (sheetOf book (number - 1)) []
 
+-- The lookup of a sheet by its number: `find_sheet(book, number)`. A sheet of no bytes is told from a refused lookup by the refusal number.
+pub record SheetFound (book : List ℕ) (number refusal : ℕ) (sheet : List ℕ) : Type 0 where
+  pub answer : refusal ≡ lookupRefusal book number
+  pub part : sheet ≡ lookup book number
+
 -- the entry of the results that belongs to sheet j, counted from 0
 unfoldable pub entryAt : BookResult → ℕ → Reply
-entryAt r j = sheetReply (getD (r .sheets) j (record { result = SheetResult.Refused 9 }) .result)
+entryAt r j = replyAt (r .sheets) j
 
 -- The share-out of a book that is not refused.
 pub record BookSharedOut (book owners prices scratch owners′ prices′ scratch′ : List ℕ) (r : BookResult) : Type 0 where
@@ -103,11 +112,11 @@ pub record BookSharedOut (book owners prices scratch owners′ prices′ scratch
   pub pricesAtExit : prices′ ≡ longList book finals (λ x. x .prices) prices
   pub zeros : scratch′ ≡ replicate (length scratch) 0
 
--- A refused book.
+-- A refused book. "The number is all that is returned"
 pub record BookNotShared (k : ℕ) (owners prices scratch owners′ prices′ scratch′ : List ℕ) (r : BookResult) : Type 0 where
   pub refusal : r .refusal ≡ k
   pub count : r .count ≡ 0
-  pub answers : (j : ℕ) → entryAt r j ≡ refused 9
+  pub answers : (j : ℕ) → entryAt r j ≡ absent
   pub moves : r .tally .moves ≡ 0
   pub cuts : r .tally .cuts ≡ 0
   pub ownersKept : owners′ ≡ owners

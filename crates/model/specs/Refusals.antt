@@ -6,7 +6,7 @@ use lib.Dec.{eqb, leb, ltb}
 use lib.ListN.{length, getD}
 use Rattle.finite.specs.Search.{allBelow, anyBelow}
 use Rattle.model.specs.Limits.{maxAgents, maxChores, maxWeight, maxPrice, scratchSize, bookEntries}
-use Rattle.model.specs.Sheet.{agentsOf, choresOf, easyWeight, difficultWeight, sheetLength, easyMark, difficultMark}
+use Rattle.model.specs.Sheet.{agentsOf, choresOf, easyWeight, difficultWeight, headerSize, sheetLength, easyMark, difficultMark}
 use Rattle.model.specs.Contents.{sheetCount, bookFits}
 use Rattle.model.specs.Fairness.{ownersInRange}
 
@@ -15,33 +15,56 @@ infixr 25 _orElse_
 unfoldable pub _orElse_ : ℕ → ℕ → ℕ
 first orElse second = cond (eqb first 0) second first
 
+infix 30 _when_
+-- "A number is returned only under its condition"
+abbrev pub _when_ : ℕ → Bool → ℕ
+number when condition = cond condition number 0
+
+-- 0, or above the limit
+abbrev pub outOfRange : ℕ → ℕ → Bool
+outOfRange limit k = eqb k 0 || ltb limit k
+
+-- "a is 0, b ≤ a, or b above 1,000"
+abbrev pub weightsFault : ℕ → ℕ → Bool
+weightsFault a b = eqb a 0 || (leb b a || ltb maxWeight b)
+
 -- a byte is one of the two marks
 unfoldable pub isMark : ℕ → Bool
 isMark byte = eqb byte easyMark || eqb byte difficultMark
+
+-- "a mark other than `e` and `d`", among the first count
+abbrev pub marksFault : List ℕ → ℕ → Bool
+marksFault s count = anyBelow count (λ k. not (isMark (getD s (headerSize + k) 0)))
+
+-- what the header's numbers alone decide
+unfoldable pub headerRefusal : ℕ → ℕ → ℕ → ℕ → ℕ
+headerRefusal n m a b =
+    -- "n is 0 or above 32"
+    1 when outOfRange maxAgents n
+    -- "m is above 200"
+    orElse 2 when ltb maxChores m
+    -- "a is 0, b ≤ a, or b above 1,000"
+    orElse 3 when weightsFault a b
 
 -- "Order for a sheet: 5 for fewer than 6 bytes, 1, 2, 3, 5, 4"
 unfoldable pub sheetRefusal : List ℕ → ℕ
 sheetRefusal s =
     -- "sheet shorter than 6 bytes"
-    cond (ltb (length s) 6) 5
-    -- "n is 0 or above 32"
-    (cond (eqb (agentsOf s) 0 || ltb maxAgents (agentsOf s)) 1
-    -- "m is above 200"
-    (cond (ltb maxChores (choresOf s)) 2
-    -- "a is 0, b ≤ a, or b above 1,000"
-    (cond (eqb (easyWeight s) 0 || (leb (difficultWeight s) (easyWeight s) || ltb maxWeight (difficultWeight s))) 3
+    5 when ltb (length s) headerSize
+    -- 1, 2, 3
+    orElse headerRefusal (agentsOf s) (choresOf s) (easyWeight s) (difficultWeight s)
     -- "or its length isn't 6 + n × m"
-    (cond (not (eqb (length s) (sheetLength s))) 5
+    orElse 5 when not (eqb (length s) (sheetLength s))
     -- "a mark other than `e` and `d`"
-    (cond (anyBelow (agentsOf s * choresOf s) (λ k. not (isMark (getD s (6 + k) 0)))) 4
-    0)))))
+    orElse 4 when marksFault s (agentsOf s * choresOf s)
 
--- 6: "owner list not of length m", 7: "an owner of 0 or above n"
+-- the list of owners, for n agents and m chores
 unfoldable pub ownersRefusal : ℕ → ℕ → List ℕ → ℕ
 ownersRefusal n m owners =
-    cond (not (eqb (length owners) m)) 6
-    (cond (not (ownersInRange n m owners)) 7
-    0)
+    -- "owner list not of length m"
+    6 when not (eqb (length owners) m)
+    -- "an owner of 0 or above n"
+    orElse 7 when not (ownersInRange n m owners)
 
 -- each of the first m prices is from 1 to 1,000,000
 unfoldable pub pricesInRange : ℕ → List ℕ → Bool
@@ -49,11 +72,11 @@ pricesInRange m prices = allBelow m (λ c. ltb 0 (getD prices c 0) && leb (getD 
 
 -- 10: "price list not of length m, or a price of 0 or above 1,000,000"
 unfoldable pub pricesRefusal : ℕ → List ℕ → ℕ
-pricesRefusal m prices = cond (not (eqb (length prices) m) || not (pricesInRange m prices)) 10 0
+pricesRefusal m prices = 10 when (not (eqb (length prices) m) || not (pricesInRange m prices))
 
 -- 8: something lent has fewer than the entries needed
 unfoldable pub lentRefusal : ℕ → ℕ → ℕ
-lentRefusal needed lent = cond (ltb lent needed) 8 0
+lentRefusal needed lent = 8 when ltb lent needed
 
 -- the share-out, with the lengths of its lent owner list, price list and scratch
 unfoldable pub allocateRefusal : List ℕ → ℕ → ℕ → ℕ → ℕ
@@ -79,13 +102,13 @@ priceRefusal s owners prices =
 
 -- 9: "a book of no bytes or over 65,535, k out of range, or contents against the book's rule"
 unfoldable pub contentsRefusal : List ℕ → ℕ
-contentsRefusal book = cond (bookFits book) 0 9
+contentsRefusal book = 9 when not (bookFits book)
 
 -- 9 too: "a lookup of sheet 0 or above k"
 unfoldable pub lookupRefusal : List ℕ → ℕ → ℕ
 lookupRefusal book number =
     contentsRefusal book
-    orElse cond (eqb number 0 || ltb (sheetCount book) number) 9 0
+    orElse 9 when outOfRange (sheetCount book) number
 
 -- "For a book: 9, then 8"
 unfoldable pub bookRefusal : List ℕ → ℕ → ℕ → ℕ → ℕ

@@ -1,9 +1,12 @@
 -- Document 01's answers, and what each case of the code's enums says: its word, its number and its values.
 use Prim.Native.Nat.{ℕ}
+use mathlib.Core.List.{List}
+use lib.ListN.{getD}
 use Rattle.model.specs.declared.ShareOut.{ShareOut}
 use Rattle.model.specs.declared.ListVerdict.{ListVerdict}
 use Rattle.model.specs.declared.PriceVerdict.{PriceVerdict}
 use Rattle.model.specs.declared.SheetResult.{SheetResult}
+use Rattle.model.specs.declared.SheetEntry.{SheetEntry}
 
 pub data Reply : Type 0 where
   -- turned down, with this number
@@ -12,6 +15,8 @@ pub data Reply : Type 0 where
   shared : ℕ → ℕ → Reply
   -- a sheet of a book: moves, cuts, first entry
   sharedAt : ℕ → ℕ → ℕ → Reply
+  -- the book has no such sheet: nothing is told
+  absent : Reply
   -- `holds`
   holds : Reply
   -- `unfair i j`
@@ -42,5 +47,10 @@ priceReply (PriceVerdict.PriceEnvy i j) = priceEnvy i j
 priceReply PriceVerdict.Accepted = accepted
 
 abbrev pub sheetReply : SheetResult → Reply
+sheetReply SheetResult.Absent = absent
 sheetReply (SheetResult.Refused k) = refused k
 sheetReply (SheetResult.Shared moves cuts first) = sharedAt moves cuts first
+
+-- the reply of entry j of a book's results, counted from 0
+abbrev pub replyAt : List SheetEntry → ℕ → Reply
+replyAt sheets j = sheetReply (getD sheets j (record { result = SheetResult.Absent }) .result)

@@ -1,6 +1,6 @@
 -- Document 01, "The sheet": its bytes, and the two readings of its marks.
 use Prim.Native.Nat.{ℕ, _+_, _*_}
-use mathlib.Core.Bool.{Bool, _||_}
+use mathlib.Core.Bool.{Bool, not, _||_}
 use mathlib.Core.List.{List}
 use lib.Dec.{eqb}
 use lib.ListN.{getD}
@@ -24,9 +24,13 @@ easyWeight s = wordAt s 2
 unfoldable pub difficultWeight : List ℕ → ℕ
 difficultWeight s = wordAt s 4
 
+-- the bytes of these four numbers, before the marks
+abbrev pub headerSize : ℕ
+headerSize = 6
+
 -- "Then n rows of m marks, person by person"
 unfoldable pub markAt : List ℕ → ℕ → ℕ → ℕ
-markAt s i c = getD s (6 + i * choresOf s + c) 0
+markAt s i c = getD s (headerSize + i * choresOf s + c) 0
 
 -- "`e` (hexadecimal 65)"
 abbrev pub easyMark : ℕ
@@ -36,17 +40,21 @@ easyMark = 0x65
 abbrev pub difficultMark : ℕ
 difficultMark = 0x64
 
--- agent i marked chore c easy
+-- "`d` .. costs b": agent i marked chore c difficult. Every reading of a mark goes by this one.
+unfoldable pub isDifficult : List ℕ → ℕ → ℕ → Bool
+isDifficult s i c = eqb (markAt s i c) difficultMark
+
+-- "`e` .. costs a": a sheet with any other mark is turned down, so what is not difficult is easy
 unfoldable pub marksEasy : List ℕ → ℕ → ℕ → Bool
-marksEasy s i c = eqb (markAt s i c) easyMark
+marksEasy s i c = not (isDifficult s i c)
 
 -- "The length is 6 + n × m"
 unfoldable pub sheetLength : List ℕ → ℕ
-sheetLength s = 6 + agentsOf s * choresOf s
+sheetLength s = headerSize + agentsOf s * choresOf s
 
 -- agent i's row holds difficult marks only
 unfoldable pub allDifficult : List ℕ → ℕ → Bool
-allDifficult s i = allBelow (choresOf s) (λ c. eqb (markAt s i c) difficultMark)
+allDifficult s i = allBelow (choresOf s) (isDifficult s i)
 
 -- costs as marked: what evenness, waste and both checks go by
 unfoldable pub asMarked : List ℕ → Instance

@@ -22,8 +22,9 @@ pub enum PriceVerdict {
     Accepted,
 }
 
-// One sheet of a book: refused, or shared out from entry `first` of the long lists on.
+// One sheet of a book: refused, or shared out from entry `first` of the long lists on; or the book has no such sheet.
 pub enum SheetResult {
+    Absent,
     Refused(u8),
     Shared { moves: u64, cuts: u8, first: usize },
 }
@@ -31,6 +32,12 @@ pub enum SheetResult {
 // An array of enums as a field is not covered by the borrow checker, an array of structs is.
 pub struct SheetEntry {
     pub result: SheetResult,
+}
+
+// What a lookup finds: its refusal number, or 0 and the part of the caller's book.
+pub struct Found<'a> {
+    pub refusal: u8,
+    pub sheet: &'a [u8],
 }
 
 // The running tally of moves and cuts.
@@ -46,6 +53,9 @@ pub struct BookResult {
     pub sheets: [SheetEntry; 16],
     pub tally: Tally,
 }
+
+// The bytes of a sheet before its marks, as in specs/Sheet.antt.
+pub const HEADER_SIZE: usize = 6;
 
 // Document 01's limits, in the code's types; specs/Limits.antt has the same numbers.
 pub const MAX_AGENTS: usize = 32;

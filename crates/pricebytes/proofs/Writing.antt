@@ -39,10 +39,6 @@ module _ (ps bytes : List ℕ) where
   pub first-length : {n : ℕ} → n ≤ length ps → length (bytesOf (take n ps)) ≡ 4 * n
   first-length {n} l = rw (bytes-length (take n ps), length-take-le n ps l)
 
-  pub with-length : {n : ℕ} → n ≤ length ps → 4 * n ≤ length bytes → length (withPrices n ps bytes) ≡ length bytes
-  unfolding withPrices
-  with-length {n} l m = simp (length-append, length-drop) (omega (arith, first-length l))
-
   pub with-first : (n : ℕ) → n ≤ length ps → take (4 * n) (withPrices n ps bytes) ≡ bytesOf (take n ps)
   unfolding withPrices
   with-first n l = take-at (bytesOf (take n ps)) (drop (4 * n) bytes) (4 * n) (first-length l)

@@ -3,3 +3,4 @@ pub mod Ratio
 pub mod Sums
 pub mod Envy
 pub mod Off
+pub mod Checked

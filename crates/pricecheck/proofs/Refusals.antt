@@ -1,22 +1,21 @@
 -- The refusals of the price check, and what 0 means. Prices are entries from 1 to a limit, as owners are.
 -- Assumes nothing.
 use Prim.Native.Nat.{ℕ, _≤_}
-use mathlib.Core.Bool.{Bool, true, false, cond, not}
+use mathlib.Core.Bool.{true, false, not}
 use mathlib.Core.List.{List}
 use mathlib.Core.Path.{_≡_, refl, sym, _∙_}
 use native.Mathlib.Nat.{le-trans}
-use native.Mathlib.Omega.{arith}
 use lib.Dec.{eqb}
 use lib.ListN.{length}
 use borrow.Author.Tests.{eqb-true, eq-eqb, ne-eqb, not-false}
+use Rattle.finite.specs.Lists.{Picks}
 use Rattle.finite.proofs.Tests.{or-none}
-use Rattle.finite.proofs.Lists.{Picks}
 use Rattle.model.specs.Limits.{maxAgents, maxPrice}
 use Rattle.model.specs.Sheet.{agentsOf, choresOf, easyWeight, difficultWeight}
 use Rattle.model.specs.Fairness.{ownersInRange}
 use Rattle.model.specs.Refusals.{_orElse_, sheetRefusal, ownersRefusal, pricesInRange, pricesRefusal, priceRefusal}
-use Rattle.sheet.proofs.OrElse.{or-else-zero, or-else-stop, or-else-go}
-use Rattle.welfare.proofs.Allocations.{entry-range}
+use Rattle.sheet.proofs.OrElse.{or-else-zero, when-none}
+use Rattle.model.proofs.Allocations.{entry-range}
 use Rattle.pricecheck.specs.Parts.{PricesGiven, Paid, Rated}
 use Rattle.given.proofs.Given.{given, given-picks, given-weighed}
 
@@ -41,27 +40,13 @@ module _ (m : ℕ) (prices : List ℕ) where
   pub prices-judged : pricesRefusal m prices ≡ 0 → Picks maxPrice m prices
   unfolding pricesRefusal
   prices-judged e =
-      let both = or-none (not (eqb (length prices) m)) (not (pricesInRange m prices)) (off _ e) in
+      let both = or-none (not (eqb (length prices) m)) (not (pricesInRange m prices)) (when-none _ 9 e) in
       let range = sym range-is ∙ not-false _ (both .1) in
       record {
         size = eqb-true (length prices) m (not-false _ (both .0));
         positive = λ c l. entry-range maxPrice m prices range c l .0;
         bounded = λ c l. entry-range maxPrice m prices range c l .1;
       }
-    where
-      off : (t : Bool) → _≡_ {A = ℕ} (cond t 10 0) 0 → t ≡ false
-      off true e = absurd (omega arith)
-      off false e = refl
-
--- the sheet is not turned down: the owners decide, or else the prices
-module _ (s owners prices : List ℕ) {n m r : ℕ} (judged : r ≡ sheetRefusal s) (fine : r ≡ 0) (agents : n ≡ agentsOf s) (chores : m ≡ choresOf s) where
-  pub owners-decide : {q : ℕ} → q ≡ ownersRefusal n m owners → (q ≡ 0 → ⊥) → q ≡ priceRefusal s owners prices
-  unfolding priceRefusal
-  owners-decide e h = or-else-go judged fine (or-else-stop _ (rw (agents, chores) at e) h)
-
-  pub prices-decide : {q t : ℕ} → q ≡ ownersRefusal n m owners → q ≡ 0 → t ≡ pricesRefusal m prices → t ≡ priceRefusal s owners prices
-  unfolding priceRefusal
-  prices-decide e h f = or-else-go judged fine (or-else-go (rw (agents, chores) at e) h (rw chores at f))
 
 -- what the refusal being 0 gives
 pub prices-given : (s owners prices : List ℕ) {n m : ℕ} → priceRefusal s owners prices ≡ 0 → n ≡ agentsOf s → m ≡ choresOf s → PricesGiven s owners prices n m

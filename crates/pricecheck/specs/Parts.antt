@@ -5,7 +5,7 @@ use mathlib.Core.List.{List}
 use mathlib.Core.Path.{_≡_}
 use lib.Dec.{ltb}
 use lib.ListN.{length, getD}
-use Rattle.finite.proofs.Lists.{Picks}
+use Rattle.finite.specs.Lists.{Picks}
 use Rattle.model.specs.Limits.{maxAgents, maxChores, maxPrice}
 use Rattle.model.specs.Instance.{ownerOf, priceOf}
 use Rattle.model.specs.Sheet.{agentsOf, asMarked}

@@ -34,8 +34,8 @@ fn prices_refusal(prices: &[u32], m: usize) -> u8
     0
 }
 
-// The sheet is judged first, then the owners, then the prices: the first that is turned down decides.
-fn refusal(sheet: &[u8], owners: &[u8], prices: &[u32]) -> u8
+// The number that the price check is turned down with, 0 where it is not.
+fn price_refusal(sheet: &[u8], owners: &[u8], prices: &[u32]) -> u8
     ensures { λ r. ⌜ r ≡ priceRefusal (now (sheet .entry)) (now (owners .entry)) (now (prices .entry)) ⌝ }
 {
     let of_sheet = sheet::sheet_refusal(sheet);
@@ -44,12 +44,8 @@ fn refusal(sheet: &[u8], owners: &[u8], prices: &[u32]) -> u8
     }
     let n = sheet::agents(sheet);
     let m = sheet::chores(sheet);
-    let of_owners = given::owners_refusal(owners, n, m);
-    let of_prices = prices_refusal(prices, m);
-    if of_owners != 0 {
-        return of_owners;
-    }
-    of_prices
+    let refusal = given::owners_refusal(owners, n, m);
+    sheet::or_else(refusal, prices_refusal(prices, m))
 }
 
 // Two numbers of 32 bits never have a product that 64 bits do not hold.
@@ -257,7 +253,7 @@ fn envy_verdict(owners: &[u8], prices: &[u32], n: usize, m: usize) -> PriceVerdi
 pub fn check_prices(sheet: &[u8], owners: &[u8], prices: &[u32]) -> PriceVerdict
     ensures { λ r. ⌜ PricesChecked (now (sheet .entry)) (now (owners .entry)) (now (prices .entry)) r ⌝ }
 {
-    let refused = refusal(sheet, owners, prices);
+    let refused = price_refusal(sheet, owners, prices);
     if refused != 0 {
         return PriceVerdict::Refused(refused);
     }

@@ -12,6 +12,7 @@ use Rattle.finite.specs.Bits.{SetOf}
 use Rattle.finite.proofs.Below.{by-same}
 use Rattle.finite.proofs.Search.{any-cong}
 use Rattle.finite.proofs.Bits.{set-and, set-or, set-cong}
+use Rattle.model.specs.Limits.{maxAgents}
 use Rattle.model.specs.Instance.{Instance, ownerOf}
 use Rattle.model.specs.Fairness.{owns}
 use Rattle.model.specs.Prices.{best}
@@ -60,7 +61,7 @@ module _ {I : Instance} {p : ℕ → ℕ} {groups entitled likes : List ℕ} {fr
   wants-best j c l h = wanting-set c h .member j l
 
   -- an agent's offer is the set of those whom it supplies
-  pub offer-set : {owners offers : List ℕ} → Offered owners entitled likes free grouped (I .m) offers → (i : ℕ) → i < I .n → I .n ≤ 32 → SetOf (I .n) (getD offers i 0) (supplies I (ownerOf owners) p i)
+  pub offer-set : {owners offers : List ℕ} → Offered owners entitled likes free grouped (I .m) offers → (i : ℕ) → i < I .n → I .n ≤ maxAgents → SetOf (I .n) (getD offers i 0) (supplies I (ownerOf owners) p i)
   unfolding wantsFrom supplies
   offer-set {owners} o i l few =
       record {

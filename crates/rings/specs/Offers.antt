@@ -7,6 +7,7 @@ use lib.Dec.{eqb, ltb}
 use lib.ListN.{length, getD}
 use Rattle.finite.specs.Bits.{bit, SetOf}
 use Rattle.finite.specs.Search.{anyBelow}
+use Rattle.model.specs.Limits.{maxAgents}
 use Rattle.model.specs.Instance.{Instance, ownerOf}
 use Rattle.model.specs.Fairness.{owns}
 use Rattle.model.specs.Prices.{best}
@@ -19,7 +20,7 @@ pub record Owned (owners entitled likes : List ℕ) : Type 0 where
   pub entitledSized : length entitled ≡ length owners
   pub likesSized : length likes ≡ length owners
   pub numbered : (c : ℕ) → c < length owners → 0 < getD owners c 0
-  pub known : (c : ℕ) → c < length owners → getD owners c 0 ≤ 32
+  pub known : (c : ℕ) → c < length owners → getD owners c 0 ≤ maxAgents
 
 -- agent j wants chore c
 unfoldable pub wantsChore : List ℕ → List ℕ → ℕ → ℕ → ℕ → ℕ → Bool
@@ -31,9 +32,9 @@ wantsFrom owners entitled likes free grouped m i j = anyBelow m (λ c. owns (own
 
 -- the offers of the first m chores
 pub record Offered (owners entitled likes : List ℕ) (free grouped m : ℕ) (offers : List ℕ) : Type 0 where
-  pub size : length offers ≡ 32
-  pub below : (k i : ℕ) → i < 32 → free < 2 ^ k → grouped < 2 ^ k → getD offers i 0 < 2 ^ k
-  pub members : (i j : ℕ) → i < 32 → bit (getD offers i 0) j ≡ wantsFrom owners entitled likes free grouped m i j
+  pub size : length offers ≡ maxAgents
+  pub below : (k i : ℕ) → i < maxAgents → free < 2 ^ k → grouped < 2 ^ k → getD offers i 0 < 2 ^ k
+  pub members : (i j : ℕ) → i < maxAgents → bit (getD offers i 0) j ≡ wantsFrom owners entitled likes free grouped m i j
 
 -- In the market I with prices p: who finds what ok, who is in no group and in some group, and that `best` comes to `wanted`.
 pub record Asking (I : Instance) (p : ℕ → ℕ) (groups entitled likes : List ℕ) (free grouped : ℕ) : Type 0 where

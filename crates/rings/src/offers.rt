@@ -5,6 +5,7 @@ ghost use lib.Dec.{eqb};
 ghost use Prim.Native.Nat.{_<_};
 ghost use lib.ListN.{length, replicate};
 ghost use Rattle.finite.specs.Search.{firstBelow};
+ghost use Rattle.model.specs.Limits.{maxAgents};
 ghost use Rattle.model.specs.Instance.{ownerOf};
 ghost use Rattle.model.specs.Fairness.{owns};
 ghost use Rattle.rings.specs.Words.{wantingWord};
@@ -31,7 +32,7 @@ pub fn add_offers(
     grouped: u32,
     offers: &mut [u32],
 )
-    requires { ⌜ Owned (now owners) (now entitled) (now likes) × (now offers ≡ replicate 32 0) ⌝ }
+    requires { ⌜ Owned (now owners) (now entitled) (now likes) × (now offers ≡ replicate maxAgents 0) ⌝ }
     ensures { λ r. ⌜ Offered (now (owners .entry)) (now (entitled .entry)) (now (likes .entry)) free grouped (length (now (owners .entry))) (now (offers .exit)) ⌝ }
 {
     let mut c = 0;
@@ -53,7 +54,7 @@ pub fn first_wanted(
     free: u32,
     grouped: u32,
 ) -> usize
-    requires { ⌜ Owned (now owners) (now entitled) (now likes) × (u < 32) ⌝ }
+    requires { ⌜ Owned (now owners) (now entitled) (now likes) × (u < maxAgents) ⌝ }
     ensures { λ r. ⌜ r ≡ firstBelow (length (now (owners .entry))) (λ c. owns (ownerOf (now (owners .entry))) w c && wantsChore (now (entitled .entry)) (now (likes .entry)) free grouped u c) ⌝ }
 {
     let mut chore = 0;

@@ -2,13 +2,14 @@
 ghost use Prim.Native.Nat.{_≤_};
 ghost use lib.ListN.{length};
 ghost use Rattle.finite.specs.Bits.{SetOf};
+ghost use Rattle.model.specs.Limits.{maxAgents};
 ghost use Rattle.rings.specs.Search.{inNextRing, Answered};
 use market::words::has;
 use market::words::with;
 
 // The agents, not reached so far, who have an offer for somebody of the ring.
 fn next_ring(n: usize, offers: &[u32], ring: u32, reached: u32) -> u32
-    requires { ⌜ (n ≤ 32) × (n ≤ length (now offers)) ⌝ }
+    requires { ⌜ (n ≤ maxAgents) × (n ≤ length (now offers)) ⌝ }
     ensures { λ r. ⌜ SetOf n r (inNextRing (now (offers .entry)) ring reached) ⌝ }
 {
     let mut next = 0u32;
@@ -34,7 +35,7 @@ pub struct Found {
 
 // The search leaves all rings as soon as one holds somebody above the least sum.
 pub fn search(n: usize, offers: &[u32], ups: &[u32], least: u32, start: u32) -> Found
-    requires { ⌜ (n ≤ 32) × (n ≤ length (now offers)) × (n ≤ length (now ups)) ⌝ }
+    requires { ⌜ (n ≤ maxAgents) × (n ≤ length (now offers)) × (n ≤ length (now ups)) ⌝ }
     ensures { λ r. ⌜ Answered n (now (offers .entry)) (now (ups .entry)) least start (r .giver) (r .takers) (r .reached) ⌝ }
 {
     let mut giver = n;

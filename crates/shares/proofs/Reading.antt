@@ -2,37 +2,30 @@
 -- Assumes nothing.
 use Prim.Native.Nat.{ℕ, zero, suc, _+_, _-_, _≤_, _<_, zero-le}
 use mathlib.Core.Bool.{true}
-use mathlib.Core.List.{List, [], _∷_, _++_}
+use mathlib.Core.List.{List, _++_}
 use mathlib.Core.Path.{_≡_, refl, sym, ap, ap₂, _∙_}
-use native.Mathlib.Nat.{le-refl, le-of-suc-le-suc}
+use native.Mathlib.Nat.{le-refl}
 use native.Mathlib.Numerals.{add-one}
 use native.Mathlib.Omega.{arith}
-use lib.ListN.{length, getD, take, drop, length-take}
+use lib.ListN.{length, take, drop, length-take}
 use lib.Seq.{length-take-le}
 use Rattle.io.specs.Counts.{Counts}
 use Rattle.finite.proofs.Tests.{clash}
-use Rattle.finite.proofs.Below.{none-below}
 use Rattle.model.specs.declared.SheetResult.{SheetResult}
-use Rattle.model.specs.declared.SheetEntry.{SheetEntry}
 use Rattle.model.specs.declared.BookResult.{BookResult}
 use Rattle.model.specs.Limits.{maxChores, scratchSize, bookEntries}
-use Rattle.model.specs.Sheet.{choresOf}
+use Rattle.model.specs.Sheet.{headerSize, choresOf}
 use Rattle.model.specs.Contents.{sheetCount, sheetOf}
 use Rattle.model.specs.Algorithm.{State}
 use Rattle.model.specs.Refusals.{contentsRefusal}
 use Rattle.model.specs.Replies.{sheetReply}
 use Rattle.model.specs.Book.{sheetAnswer}
 use Rattle.model.specs.Promises.{entryAt, BookAllocated}
-use Rattle.book.proofs.Answers.{shared-answer, refused-answer, taken-valid, stretch-inside, refusal-is, not-refused, refusal-fits, contents-decide, entry-there, owners-there, prices-there}
+use Rattle.book.proofs.Answers.{shared-answer, never-absent, refused-answer, taken-valid, stretch-inside, refusal-is, not-refused, refusal-fits, contents-decide, owners-there, prices-there}
 use Rattle.shares.specs.Page.{sharedLines, refusedLine, bookRefusedLine, totalLine, sheetText, sheetsText, bookText}
 use Rattle.shares.specs.Put.{sheetMost, sheetRoom, sheetsMost, pageRoom, Put, Wide}
 use Rattle.shares.specs.Answered.{answerAt, isShared, firstOf, answerText, answersText, Readable, Handed, Allotted, Passed, Paged}
 use Rattle.shares.proofs.Putting.{put-nothing, put-then, put-more}
-
-any-default : {A : Type 0} (xs : List A) (j : ℕ) (a b : A) → j < length xs → getD xs j a ≡ getD xs j b
-any-default [] j a b l = none-below l
-any-default (x ∷ xs) zero a b l = refl
-any-default (x ∷ xs) (suc j) a b l = any-default xs j a b (le-of-suc-le-suc l)
 
 counted : (r : ℕ) (out : List ℕ) → r ≤ length out → Counts r out
 counted r out l = (l, sym (length-take-le r out l))
@@ -45,7 +38,7 @@ module _ {book owners prices : List ℕ} {j : ℕ} {answer : SheetResult} (R : R
   starts : firstOf answer ≡ first
   starts = ap firstOf e
 
-  pub header-there : 6 ≤ length sheet
+  pub header-there : headerSize ≤ length sheet
   header-there = rw same (R .header shared)
 
   module _ {m : ℕ} (has : m ≡ choresOf sheet) where
@@ -71,6 +64,10 @@ module _ {book owners prices : List ℕ} {j : ℕ} {answer : SheetResult} (R : R
     unfolding answerText
     shared-text P = rw e (rw chores-lent at P)
 
+pub absent-text : (book owners prices : List ℕ) (j : ℕ) {answer : SheetResult} → answer ≡ SheetResult.Absent → {out : List ℕ} {at : ℕ} → Put sheetMost (answerText book owners prices j answer) out at out at
+unfolding answerText
+absent-text book owners prices j e = rw e (put-more put-nothing (omega arith))
+
 pub refused-text : (book owners prices : List ℕ) (j : ℕ) {k : ℕ} {answer : SheetResult} → answer ≡ SheetResult.Refused k → {out out′ : List ℕ} {at r : ℕ} → Put 56 (refusedLine (j + 1) k) out at out′ r → Put sheetMost (answerText book owners prices j answer) out at out′ r
 unfolding answerText
 refused-text book owners prices j e P = rw e (put-more P (omega arith))
@@ -79,15 +76,14 @@ module _ {book owners prices : List ℕ} {r : BookResult} (A : Allotted book own
   abbrev finals : ℕ → State
   finals = A .sharedOut .finals
 
-  -- each sheet of the book has its entry, so that it does not matter what stands for one that is not there
-  told : (j : ℕ) → j < sheetCount book → sheetReply (answerAt (r .sheets) j) ≡ sheetAnswer book finals j
+  told : (j : ℕ) → sheetReply (answerAt (r .sheets) j) ≡ sheetAnswer book finals j
   unfolding entryAt
-  told j l =
-      ap (λ (x : SheetEntry). sheetReply (x .result)) (any-default (r .sheets) j _ _ (entry-there (A .sharedOut) j l)) ∙ A .sharedOut .answers j
+  told j = A .sharedOut .answers j
 
   module _ (j : ℕ) (l : j < sheetCount book) where
     -- what the answer for sheet j lets its reader ask
     readable-as : (answer : SheetResult) → sheetReply answer ≡ sheetAnswer book finals j → Readable book owners prices j answer
+    readable-as SheetResult.Absent e = absurd (never-absent book finals j l e)
     readable-as (SheetResult.Refused k) e =
         record {
           fits = A .fits;
@@ -111,10 +107,11 @@ module _ {book owners prices : List ℕ} {r : BookResult} (A : Allotted book own
         }
 
     pub readable : Readable book owners prices j (answerAt (r .sheets) j)
-    readable = readable-as (answerAt (r .sheets) j) (told j l)
+    readable = readable-as (answerAt (r .sheets) j) (told j)
 
     text-as : (answer : SheetResult) → sheetReply answer ≡ sheetAnswer book finals j → answerText book owners prices j answer ≡ sheetText book finals j
     unfolding answerText sheetText
+    text-as SheetResult.Absent e = absurd (never-absent book finals j l e)
     text-as (SheetResult.Refused k) e =
         let T = refused-answer book finals j l e in
         rw (T .refuses, T .numberIs)
@@ -125,7 +122,7 @@ module _ {book owners prices : List ℕ} {r : BookResult} (A : Allotted book own
   texts : (j : ℕ) → j ≤ sheetCount book → answersText book owners prices (r .sheets) j ≡ sheetsText book finals j
   unfolding answersText sheetsText
   texts zero m = refl
-  texts (suc j) m = ap₂ _++_ (texts j (omega arith)) (text-as j m (answerAt (r .sheets) j) (told j m))
+  texts (suc j) m = ap₂ _++_ (texts j (omega arith)) (text-as j m (answerAt (r .sheets) j) (told j))
 
   -- the loop over the sheets
   pub begin : {out : List ℕ} → Passed book owners prices (r .sheets) out out 0 0

@@ -9,22 +9,24 @@ use Rattle.model.specs.declared.SheetResult.{SheetResult}
 use Rattle.model.specs.declared.SheetEntry.{SheetEntry}
 use Rattle.model.specs.declared.BookResult.{BookResult}
 use Rattle.model.specs.Limits.{maxChores, scratchSize, bookEntries}
-use Rattle.model.specs.Sheet.{choresOf}
+use Rattle.model.specs.Sheet.{headerSize, choresOf}
 use Rattle.model.specs.Contents.{sheetCount, sheetOf}
 use Rattle.model.specs.Promises.{BookSharedOut, BookAllocated}
 use Rattle.contents.specs.Fits.{Fits}
 use Rattle.shares.specs.Page.{sharedLines, refusedLine, Printed}
 use Rattle.shares.specs.Put.{sheetMost, Put}
 
--- the answer that a list of entries has for sheet j, as code reads it
+-- the answer that a list of entries has for sheet j
 abbrev pub answerAt : List SheetEntry → ℕ → SheetResult
-answerAt sheets j = getD sheets j (record { result = SheetResult.Refused 0 }) .result
+answerAt sheets j = getD sheets j (record { result = SheetResult.Absent }) .result
 
 abbrev pub isShared : SheetResult → Bool
+isShared SheetResult.Absent = false
 isShared (SheetResult.Refused k) = false
 isShared (SheetResult.Shared moves cuts first) = true
 
 abbrev pub firstOf : SheetResult → ℕ
+firstOf SheetResult.Absent = 0
 firstOf (SheetResult.Refused k) = 0
 firstOf (SheetResult.Shared moves cuts first) = first
 
@@ -33,8 +35,9 @@ abbrev pub part : List ℕ → ℕ → List ℕ → ℕ → List ℕ
 part book j xs first = take (choresOf (sheetOf book j)) (drop first xs)
 
 module _ (book owners prices : List ℕ) where
-  -- the lines of sheet j, answered so
+  -- the lines of sheet j, answered so; none for a sheet that is not there
   unfoldable pub answerText : ℕ → SheetResult → List ℕ
+  answerText j SheetResult.Absent = []
   answerText j (SheetResult.Refused k) = refusedLine (j + 1) k
   answerText j (SheetResult.Shared moves cuts first) = sharedLines (j + 1) moves cuts (part book j owners first) (part book j prices first)
 
@@ -47,7 +50,7 @@ module _ (book owners prices : List ℕ) where
   pub record Readable (j : ℕ) (answer : SheetResult) : Type 0 where
     pub fits : Fits book
     pub below : j < sheetCount book
-    pub header : isShared answer ≡ true → 6 ≤ length (sheetOf book j)
+    pub header : isShared answer ≡ true → headerSize ≤ length (sheetOf book j)
     pub few : isShared answer ≡ true → choresOf (sheetOf book j) ≤ maxChores
     pub inOwners : isShared answer ≡ true → firstOf answer + choresOf (sheetOf book j) ≤ length owners
     pub inPrices : isShared answer ≡ true → firstOf answer + choresOf (sheetOf book j) ≤ length prices

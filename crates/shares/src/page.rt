@@ -23,6 +23,7 @@ fn sheet_text(
 {
     let number = j as u64 + 1;
     match answer {
+        model::SheetResult::Absent => at,
         model::SheetResult::Refused(refusal) => {
             lines::refused_line(number, refusal as u64, out, at)
         }

@@ -1,3 +1,2 @@
 pub mod Valid
 pub mod Readers
-pub mod Parts

@@ -4,7 +4,6 @@ use mathlib.Core.List.{List}
 use mathlib.Core.Path.{_≡_}
 use lib.ListN.{length}
 use Rattle.model.specs.Sheet.{agentsOf, choresOf, sheetLength}
-use Rattle.sheet.specs.Valid.{Valid}
 
 -- a reader's answer: the value asked for, and a bound that it stays below
 pub record Read (value bound r : ℕ) : Type 0 where
@@ -18,8 +17,8 @@ pub record InSheet (s : List ℕ) (m i c : ℕ) : Type 0 where
   pub agent : i < agentsOf s
   pub chore : c < choresOf s
 
--- the accepted sheet s has m chores; i is one of its agents
+-- the same without a chore
 pub record RowInSheet (s : List ℕ) (m i : ℕ) : Type 0 where
-  pub valid : Valid s
+  pub long : length s ≡ sheetLength s
   pub chores : m ≡ choresOf s
   pub agent : i < agentsOf s

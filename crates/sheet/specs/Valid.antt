@@ -5,12 +5,12 @@ use mathlib.Core.List.{List}
 use mathlib.Core.Path.{_≡_}
 use lib.ListN.{length}
 use Rattle.model.specs.Limits.{maxAgents, maxChores, maxWeight}
-use Rattle.model.specs.Sheet.{agentsOf, choresOf, easyWeight, difficultWeight, sheetLength, markAt}
+use Rattle.model.specs.Sheet.{headerSize, agentsOf, choresOf, easyWeight, difficultWeight, sheetLength, markAt}
 use Rattle.model.specs.Refusals.{isMark}
 
 pub record Valid (s : List ℕ) : Type 0 where
   -- the header is there
-  pub header : 6 ≤ length s
+  pub header : headerSize ≤ length s
   pub someAgent : 0 < agentsOf s
   pub agentsFit : agentsOf s ≤ maxAgents
   pub choresFit : choresOf s ≤ maxChores

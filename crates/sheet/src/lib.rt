@@ -2,15 +2,13 @@
 
 ghost use mathlib.Core.Path.{_≡_};
 ghost use Prim.Native.Nat.{_+_, _≤_, _<_};
+ghost use mathlib.Core.Bool.{not};
+ghost use lib.Dec.{eqb};
 ghost use lib.ListN.{length, getD};
 ghost use Rattle.finite.specs.Lists.{wordAt};
-ghost use Rattle.model.specs.Sheet.{agentsOf, choresOf, easyWeight, difficultWeight, marksEasy, allDifficult};
-ghost use Rattle.model.specs.Refusals.{isMark, sheetRefusal, lentRefusal};
-ghost use Rattle.sheet.specs.Parts.{agentsFault, weightsFault, marksFault, headerRefusal};
+ghost use Rattle.model.specs.Sheet.{headerSize, agentsOf, choresOf, easyWeight, difficultWeight, marksEasy, allDifficult};
+ghost use Rattle.model.specs.Refusals.{_orElse_, _when_, outOfRange, weightsFault, isMark, marksFault, headerRefusal, sheetRefusal, lentRefusal};
 ghost use Rattle.sheet.specs.Readers.{Read, InSheet, RowInSheet};
-
-// The marks start here.
-const HEADER: usize = 6;
 
 const EASY: u8 = b'e';
 
@@ -34,28 +32,28 @@ pub fn word_at(bytes: &[u8], i: usize) -> u32
 }
 
 pub fn agents(sheet: &[u8]) -> usize
-    requires { ⌜ 6 ≤ length (now sheet) ⌝ }
+    requires { ⌜ headerSize ≤ length (now sheet) ⌝ }
     ensures { λ r. ⌜ Read (agentsOf (now (sheet .entry))) 256 r ⌝ }
 {
     byte_at(sheet, 0) as usize
 }
 
 pub fn chores(sheet: &[u8]) -> usize
-    requires { ⌜ 6 ≤ length (now sheet) ⌝ }
+    requires { ⌜ headerSize ≤ length (now sheet) ⌝ }
     ensures { λ r. ⌜ Read (choresOf (now (sheet .entry))) 256 r ⌝ }
 {
     byte_at(sheet, 1) as usize
 }
 
 pub fn easy_weight(sheet: &[u8]) -> u32
-    requires { ⌜ 6 ≤ length (now sheet) ⌝ }
+    requires { ⌜ headerSize ≤ length (now sheet) ⌝ }
     ensures { λ r. ⌜ Read (easyWeight (now (sheet .entry))) 65536 r ⌝ }
 {
     word_at(sheet, 2)
 }
 
 pub fn difficult_weight(sheet: &[u8]) -> u32
-    requires { ⌜ 6 ≤ length (now sheet) ⌝ }
+    requires { ⌜ headerSize ≤ length (now sheet) ⌝ }
     ensures { λ r. ⌜ Read (difficultWeight (now (sheet .entry))) 65536 r ⌝ }
 {
     word_at(sheet, 4)
@@ -67,10 +65,10 @@ pub fn marks_easy(sheet: &[u8], m: usize, i: usize, c: usize) -> bool
     requires { ⌜ InSheet (now sheet) m i c ⌝ }
     ensures { λ r. ⌜ r ≡ marksEasy (now (sheet .entry)) i c ⌝ }
 {
-    sheet[HEADER + i * m + c] == EASY
+    sheet[model::HEADER_SIZE + i * m + c] != DIFFICULT
 }
 
-// In a valid sheet a mark that is not easy is difficult.
+// Whether agent i marked every chore difficult.
 pub fn all_difficult(sheet: &[u8], m: usize, i: usize) -> bool
     requires { ⌜ RowInSheet (now sheet) m i ⌝ }
     ensures { λ r. ⌜ r ≡ allDifficult (now (sheet .entry)) i ⌝ }
@@ -93,12 +91,12 @@ fn is_mark(byte: u8) -> bool
 
 // Whether one of the `count` bytes after the header is no mark.
 fn marks_fault(sheet: &[u8], count: usize) -> bool
-    requires { ⌜ 6 + count ≤ length (now sheet) ⌝ }
+    requires { ⌜ headerSize + count ≤ length (now sheet) ⌝ }
     ensures { λ r. ⌜ r ≡ marksFault (now (sheet .entry)) count ⌝ }
 {
     let mut k = 0;
     while k < count {
-        if !is_mark(sheet[HEADER + k]) {
+        if !is_mark(sheet[model::HEADER_SIZE + k]) {
             return true;
         }
         k += 1;
@@ -106,10 +104,11 @@ fn marks_fault(sheet: &[u8], count: usize) -> bool
     false
 }
 
-fn agents_fault(n: usize) -> bool
-    ensures { λ r. ⌜ r ≡ agentsFault n ⌝ }
+// 0, or above the limit.
+pub fn out_of_range(k: usize, limit: usize) -> bool
+    ensures { λ r. ⌜ r ≡ outOfRange limit k ⌝ }
 {
-    n == 0 || n > model::MAX_AGENTS
+    k == 0 || k > limit
 }
 
 fn weights_fault(a: u32, b: u32) -> bool
@@ -118,51 +117,56 @@ fn weights_fault(a: u32, b: u32) -> bool
     a == 0 || (b <= a || b > model::MAX_WEIGHT)
 }
 
-// The tests come in the order of the numbers, so that the first that holds decides.
+// The first refusal, or else the second: refusals in a row are one `or_else` for each further number.
+pub fn or_else(first: u8, second: u8) -> u8
+    ensures { λ r. ⌜ r ≡ first orElse second ⌝ }
+{
+    if first == 0 { second } else { first }
+}
+
+// A refusal's number, where its condition holds.
+pub fn when(number: u8, condition: bool) -> u8
+    ensures { λ r. ⌜ r ≡ number when condition ⌝ }
+{
+    if condition { number } else { 0 }
+}
+
 fn header_refusal(n: usize, m: usize, a: u32, b: u32) -> u8
     ensures { λ r. ⌜ r ≡ headerRefusal n m a b ⌝ }
 {
-    if agents_fault(n) {
-        return 1;
-    }
-    if m > model::MAX_CHORES {
-        return 2;
-    }
-    if weights_fault(a, b) {
-        return 3;
-    }
-    0
+    let refusal = when(1, out_of_range(n, model::MAX_AGENTS));
+    let refusal = or_else(refusal, when(2, m > model::MAX_CHORES));
+    or_else(refusal, when(3, weights_fault(a, b)))
 }
 
-// 0 for a sheet that is not turned down. The length is judged after the header, since it depends on it.
+// The marks are read only where they are there.
+fn body_refusal(sheet: &[u8], marks: usize) -> u8
+    requires { ⌜ headerSize ≤ length (now sheet) ⌝ }
+    requires { ⌜ marks < 65536 ⌝ }
+    ensures { λ r. ⌜ r ≡ 5 when not (eqb (length (now (sheet .entry))) (headerSize + marks)) orElse 4 when marksFault (now (sheet .entry)) marks ⌝ }
+{
+    if sheet.len() != model::HEADER_SIZE + marks {
+        return 5;
+    }
+    when(4, marks_fault(sheet, marks))
+}
+
+// 0 for a sheet that is not turned down.
 pub fn sheet_refusal(sheet: &[u8]) -> u8
     ensures { λ r. ⌜ r ≡ sheetRefusal (now (sheet .entry)) ⌝ }
 {
-    if sheet.len() < HEADER {
+    if sheet.len() < model::HEADER_SIZE {
         return 5;
     }
     let n = agents(sheet);
     let m = chores(sheet);
     let refusal = header_refusal(n, m, easy_weight(sheet), difficult_weight(sheet));
-    if refusal != 0 {
-        return refusal;
-    }
-    let marks = n * m;
-    if sheet.len() != HEADER + marks {
-        return 5;
-    }
-    if marks_fault(sheet, marks) {
-        return 4;
-    }
-    0
+    or_else(refusal, body_refusal(sheet, n * m))
 }
 
 // 8: a lent list is too short. Every call that is lent a list turns it down so.
 pub fn lent_refusal(needed: usize, lent: usize) -> u8
     ensures { λ r. ⌜ r ≡ lentRefusal needed lent ⌝ }
 {
-    if lent < needed {
-        return 8;
-    }
-    0
+    when(8, lent < needed)
 }

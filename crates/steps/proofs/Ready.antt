@@ -14,7 +14,7 @@ use Rattle.finite.specs.Bits.{SetOf}
 use Rattle.finite.proofs.Search.{any-cong}
 use Rattle.finite.proofs.Extremes.{low-cong}
 use Rattle.finite.proofs.Bits.{set-cong}
-use Rattle.model.specs.Limits.{maxWeight, maxPrice}
+use Rattle.model.specs.Limits.{maxAgents, maxPrice, maxWeight}
 use Rattle.model.specs.Instance.{ownerOf, priceOf}
 use Rattle.model.specs.Sheet.{agentsOf, choresOf, difficultWeight, asRead}
 use Rattle.model.specs.Prices.{best, priceSum, priceUpToOne}
@@ -41,7 +41,7 @@ price-fits {s} v K c h =
     le-trans (price-bound (read-sound v) K c h) square
 
 -- a reached state is ready for a turn
-pub reached-ready : {s owners prices groups entitled likes sums ups : List ℕ} {moves cuts stage : ℕ} → Valid s → Reached (asRead s) (stateOf owners prices groups entitled moves cuts stage) → Liked (asRead s) likes → length sums ≡ 32 → length ups ≡ 32 → Ready s owners prices groups entitled likes sums ups
+pub reached-ready : {s owners prices groups entitled likes sums ups : List ℕ} {moves cuts stage : ℕ} → Valid s → Reached (asRead s) (stateOf owners prices groups entitled moves cuts stage) → Liked (asRead s) likes → length sums ≡ maxAgents → length ups ≡ maxAgents → Ready s owners prices groups entitled likes sums ups
 unfolding asRead groupOf entitledOf group isEntitled
 reached-ready v R liking sums ups =
     record {

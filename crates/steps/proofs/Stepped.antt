@@ -8,6 +8,7 @@ use native.Mathlib.Omega.{arith}
 use lib.ListN.{length, getD, set}
 use Rattle.finite.specs.Bits.{bit}
 use Rattle.finite.specs.Lists.{tabulate}
+use Rattle.model.specs.Limits.{maxAgents}
 use Rattle.model.specs.Instance.{ownerOf, priceOf}
 use Rattle.model.specs.Step2b.{due2b, chore2b}
 use Rattle.model.specs.Sheet.{agentsOf, choresOf, easyWeight, difficultWeight, asRead}
@@ -35,7 +36,7 @@ module _ {s owners prices groups entitled likes sums ups : List ℕ} {cuts : ℕ
         weight = R .valid .weightFits;
       }
 
-  pub cuts-fit : cuts < 32
+  pub cuts-fit : cuts < maxAgents
   unfolding asRead
   cuts-fit = omega (arith, fewer-cuts (T .reached), T .ready .valid .agentsFit)
 

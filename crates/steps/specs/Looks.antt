@@ -6,6 +6,7 @@ use mathlib.Core.Path.{_≡_}
 use lib.ListN.{length}
 use Rattle.finite.specs.Bits.{bit}
 use Rattle.finite.specs.Search.{anyBelow, firstBelow}
+use Rattle.model.specs.Limits.{maxAgents}
 use Rattle.model.specs.Instance.{ownerOf, priceOf}
 use Rattle.model.specs.Sheet.{agentsOf, asRead}
 use Rattle.model.specs.Fairness.{owns}
@@ -30,7 +31,7 @@ choreFor owners entitled likes w u free grouped =
 
 -- the move is there
 pub record Handing (n : ℕ) (owners entitled likes : List ℕ) (w takers free grouped : ℕ) : Type 0 where
-  pub agents : n ≤ 32
+  pub agents : n ≤ maxAgents
   pub owned : Owned owners entitled likes
   pub receiver : lowestOf n takers < n
   pub chore : choreFor owners entitled likes w (lowestOf n takers) free grouped < length owners

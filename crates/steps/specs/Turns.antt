@@ -3,6 +3,7 @@ use Prim.Native.Nat.{ℕ, _+_, _-_, _<_}
 use mathlib.Core.List.{List}
 use mathlib.Core.Path.{_≡_}
 use lib.ListN.{length, getD}
+use Rattle.model.specs.Limits.{maxAgents}
 use Rattle.model.specs.Instance.{ownerOf, priceOf}
 use Rattle.model.specs.Sheet.{agentsOf, choresOf, asRead}
 use Rattle.model.specs.Algorithm.{State, Outcome, busy, done}
@@ -34,8 +35,8 @@ pub record Ready (s owners prices groups entitled likes sums ups : List ℕ) : T
   pub numbered : (c : ℕ) → c < choresOf s → 0 < getD owners c 0
   pub core : Core (asRead s) (ownerOf owners) (priceOf prices) (groupOf groups) (entitledOf entitled)
   pub liking : Liked (asRead s) likes
-  pub sumsSized : length sums ≡ 32
-  pub upsSized : length ups ≡ 32
+  pub sumsSized : length sums ≡ maxAgents
+  pub upsSized : length ups ≡ maxAgents
 
 -- a state that Algorithm 1 reaches on the sheet s
 pub record Turning (s owners prices groups entitled likes sums ups : List ℕ) (cuts stage : ℕ) : Type 0 where

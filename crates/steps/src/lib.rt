@@ -2,6 +2,7 @@
 ghost use mathlib.Core.Path.{_≡_};
 ghost use Prim.Native.Nat.{ℕ, _+_, _<_};
 ghost use lib.ListN.{length, set, replicate};
+ghost use Rattle.model.specs.Limits.{maxAgents};
 ghost use Rattle.model.specs.Sheet.{asRead};
 ghost use Rattle.model.specs.Algorithm.{step};
 ghost use Rattle.steps.specs.Turns.{stateOf, named, Ready, Turning};
@@ -42,7 +43,7 @@ struct Seen {
 
 // Made in a function of its own, so that its entries are one value where it is used.
 fn no_offers() -> [u32; model::MAX_AGENTS]
-    ensures { λ r. ⌜ r ≡ replicate 32 0 ⌝ }
+    ensures { λ r. ⌜ r ≡ replicate maxAgents 0 ⌝ }
 {
     [0; model::MAX_AGENTS]
 }

@@ -1,4 +1,4 @@
--- Laws of the distances: how a ring spreads, and what the rings say of tainted agents.
+-- Laws of the distances: how a ring spreads, and what the rings say of connected agents.
 -- Assumes nothing.
 use Prim.Native.Nat.{ℕ, suc, _+_, _≤_, _<_}
 use mathlib.Core.Bool.{Bool, true, false, cond, _&&_, _||_}
@@ -17,8 +17,8 @@ use Rattle.finite.proofs.Below.{by-same, by-less}
 use Rattle.finite.proofs.Search.{any-next, any-elim, any-intro}
 use Rattle.model.specs.Limits.{maxAgents}
 use Rattle.model.specs.Instance.{Instance}
-use Rattle.welfare.specs.Waste.{burdened, passesOn, tainted}
-use Rattle.welfare.proofs.Taint.{tainted-zero, tainted-step, tainted-mono, tainted-added}
+use Rattle.welfare.specs.Waste.{burdened, passesOn, connected}
+use Rattle.welfare.proofs.Connected.{connected-zero, connected-step, connected-mono, connected-added}
 use Rattle.waste.specs.Rings.{noDistance, nearer, Spread, Rings}
 
 -- one agent's distance
@@ -109,7 +109,7 @@ module _ (I : Instance) (x : ℕ → ℕ) where
         size = size;
         within = λ r i l below.
             let z : r ≡ 0 = omega arith in
-            rw (z, tainted-zero I x i, each i below) (first-leb (burdened I x i));
+            rw (z, connected-zero I x i, each i below) (first-leb (burdened I x i));
         beyond = λ i below l. each i below ∙ first-beyond (burdened I x i) (rw (each i below) at l);
       }
     where
@@ -156,31 +156,31 @@ module _ {I : Instance} {x : ℕ → ℕ} {t : ℕ} {old new : List ℕ} (rings 
   unfolding linked
   far-unlinked i l h e = s .each i l ∙ nearer-off (t + 1) (getD old i 0) e ∙ rings .beyond i l h
 
-  -- an agent that is linked to the last ring is tainted by one step more
-  link-tainted : (i : ℕ) → linked i ≡ true → tainted I x (suc t) i ≡ true
+  -- an agent that is linked to the last ring is connected by one step more
+  link-connected : (i : ℕ) → linked i ≡ true → connected I x (suc t) i ≡ true
   unfolding linked ringLink
-  link-tainted i e =
+  link-connected i e =
       let r = any-elim (I .n) (ringLink I x old t i) e in
       let j = r .index in
       let both = and-elim (eqb (getD old j 0) t) (passesOn I x i j) (r .passes) in
       let at : getD old j 0 ≤ t = omega (arith, eqb-true (getD old j 0) t (both .0)) in
-      tainted-step I x t i j (r .below) (sym (rings .within t j (le-refl _) (r .below)) ∙ le-leb (getD old j 0) t at) (both .1)
+      connected-step I x t i j (r .below) (sym (rings .within t j (le-refl _) (r .below)) ∙ le-leb (getD old j 0) t at) (both .1)
 
-  -- and an agent that one step more taints is linked to the last ring: were it linked to an earlier one, it would be in a ring itself
-  tainted-linked : (i : ℕ) → tainted I x t i ≡ false → tainted I x (suc t) i ≡ true → linked i ≡ true
-  unfolding linked ringLink tainted
-  tainted-linked i out e =
-      let v = tainted-added I x t i e out in
+  -- and an agent that one step more connects is linked to the last ring: were it linked to an earlier one, it would be in a ring itself
+  connected-linked : (i : ℕ) → connected I x t i ≡ false → connected I x (suc t) i ≡ true → linked i ≡ true
+  unfolding linked ringLink connected
+  connected-linked i out e =
+      let v = connected-added I x t i e out in
       let j = v .next in
       let d = getD old j 0 in
       let at : d ≤ t = leb-true d t (rings .within t j (le-refl _) (v .below) ∙ v .reached) in
       by-less d t
       (λ less.
       let reached = sym (rings .within d j at (v .below)) ∙ le-leb d d (le-refl _) in
-      absurd (clash (tainted-mono I x less i (tainted-step I x d i j (v .below) reached (v .linked))) out))
+      absurd (clash (connected-mono I x less i (connected-step I x d i j (v .below) reached (v .linked))) out))
       (λ top. any-intro (ringLink I x old t i) j (v .below) (and-intro (eq-eqb d t (omega arith)) (v .linked)))
 
-  rings-old : (r i : ℕ) → r ≤ t → i < I .n → leb (getD new i 0) r ≡ tainted I x r i
+  rings-old : (r i : ℕ) → r ≤ t → i < I .n → leb (getD new i 0) r ≡ connected I x r i
   rings-old r i le l =
       by-less t (getD old i 0)
       (λ far.
@@ -189,19 +189,19 @@ module _ {I : Instance} {x : ℕ → ℕ} {t : ℕ} {old new : List ℕ} (rings 
       lt-leb (getD new i 0) r still ∙ sym out ∙ rings .within r i le l)
       (λ at. ap (λ v. leb v r) (near i l at) ∙ rings .within r i le l)
 
-  rings-new : (i : ℕ) → i < I .n → leb (getD new i 0) (t + 1) ≡ tainted I x (t + 1) i
+  rings-new : (i : ℕ) → i < I .n → leb (getD new i 0) (t + 1) ≡ connected I x (t + 1) i
   rings-new i l =
       by-less t (getD old i 0)
       (λ far.
-      let out : tainted I x t i ≡ false = sym (rings .within t i (le-refl _) l) ∙ lt-leb (getD old i 0) t far in
+      let out : connected I x t i ≡ false = sym (rings .within t i (le-refl _) l) ∙ lt-leb (getD old i 0) t far in
       by-test (linked i)
-      (λ e. le-leb (getD new i 0) (t + 1) (omega (arith, far-linked i l far e)) ∙ sym (rw add-one (link-tainted i e)))
+      (λ e. le-leb (getD new i 0) (t + 1) (omega (arith, far-linked i l far e)) ∙ sym (rw add-one (link-connected i e)))
       (λ e.
       lt-leb (getD new i 0) (t + 1) (omega (arith, far-unlinked i l far e))
-      ∙ sym (rw add-one (not-yes _ (λ h. clash (tainted-linked i out h) e)))))
+      ∙ sym (rw add-one (not-yes _ (λ h. clash (connected-linked i out h) e)))))
       (λ at.
       le-leb (getD new i 0) (t + 1) (omega (arith, near i l at))
-      ∙ sym (tainted-mono I x (omega arith) i (sym (rings .within t i (le-refl _) l) ∙ le-leb (getD old i 0) t at)))
+      ∙ sym (connected-mono I x (omega arith) i (sym (rings .within t i (le-refl _) l) ∙ le-leb (getD old i 0) t at)))
 
   -- one ring more
   pub rings-next : Rings I x (t + 1) new
@@ -217,9 +217,9 @@ module _ {I : Instance} {x : ℕ → ℕ} {t : ℕ} {old new : List ℕ} (rings 
             (λ at. absurd (omega (arith, near i l at)));
       }
 
--- all rings are there: an agent has a distance where it is tainted, and its distance is the number of steps that taints it first
+-- all rings are there: an agent has a distance where it is connected, and its distance is the number of steps that connects it first
 module _ {I : Instance} {x : ℕ → ℕ} {t : ℕ} {distances : List ℕ} (rings : Rings I x t distances) (small : t < noDistance) (i : ℕ) (l : i < I .n) where
-  pub rings-has : ltb (getD distances i 0) noDistance ≡ tainted I x t i
+  pub rings-has : ltb (getD distances i 0) noDistance ≡ connected I x t i
   rings-has =
       by-less t (getD distances i 0)
       (λ far. le-ltb (getD distances i 0) noDistance (omega (arith, rings .beyond i l far)) ∙ sym (lt-leb (getD distances i 0) t far) ∙ rings .within t i (le-refl _) l)
@@ -230,10 +230,10 @@ module _ {I : Instance} {x : ℕ → ℕ} {t : ℕ} {distances : List ℕ} (ring
       by-less t (getD distances i 0) (λ far. absurd (omega (arith, rings .beyond i l far))) (λ at. at)
 
   module _ (has : getD distances i 0 < noDistance) where
-    pub rings-reached : tainted I x (getD distances i 0) i ≡ true
+    pub rings-reached : connected I x (getD distances i 0) i ≡ true
     rings-reached =
         sym (rings .within (getD distances i 0) i (rings-at-most has) l) ∙ le-leb (getD distances i 0) (getD distances i 0) (le-refl _)
 
-    pub rings-nearest : (r : ℕ) → r < getD distances i 0 → tainted I x r i ≡ false
+    pub rings-nearest : (r : ℕ) → r < getD distances i 0 → connected I x r i ≡ false
     rings-nearest r less =
         sym (rings .within r i (omega (arith, rings-at-most has)) l) ∙ lt-leb (getD distances i 0) r less

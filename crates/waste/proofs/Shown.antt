@@ -12,7 +12,7 @@ use Rattle.finite.proofs.Search.{any-cong, any-first, first-passes}
 use Rattle.model.specs.Instance.{ownerOf}
 use Rattle.model.specs.Sheet.{agentsOf, choresOf, marksEasy, asMarked}
 use Rattle.model.specs.Fairness.{dominated}
-use Rattle.welfare.specs.Waste.{tainted, wasteTest}
+use Rattle.welfare.specs.Waste.{connected, wasteTest}
 use Rattle.welfare.proofs.Waste.{waste-exact}
 use Rattle.given.specs.Given.{Given}
 use Rattle.given.proofs.Given.{owner-agent}
@@ -23,16 +23,16 @@ use Rattle.waste.proofs.Tests.{takes-elim, wasted-elim}
 use Rattle.waste.proofs.Rings.{rings-has}
 
 module _ {s owners : List ℕ} {n m : ℕ} (g : Given s owners n m) {distances : List ℕ} (rings : Rings (asMarked s) (ownerOf owners) n distances) where
-  tainted-takes : (c j : ℕ) → j < agentsOf s → takes s distances noDistance c j ≡ (tainted (asMarked s) (ownerOf owners) (agentsOf s) j && marksEasy s j c)
+  connected-takes : (c j : ℕ) → j < agentsOf s → takes s distances noDistance c j ≡ (connected (asMarked s) (ownerOf owners) (agentsOf s) j && marksEasy s j c)
   unfolding takes asMarked
-  tainted-takes c j l =
+  connected-takes c j l =
       ap (λ b. b && marksEasy s j c)
-      (rings-has rings (omega (arith, g .agents, g .valid .agentsFit)) j l ∙ ap (λ k. tainted (asMarked s) (ownerOf owners) k j) (g .agents))
+      (rings-has rings (omega (arith, g .agents, g .valid .agentsFit)) j l ∙ ap (λ k. connected (asMarked s) (ownerOf owners) k j) (g .agents))
 
   waste-search : wasteTest (asMarked s) (ownerOf owners) ≡ anyBelow m (wasted s owners distances n)
   unfolding wasteTest wasted asMarked
   waste-search =
-      rw (g .chores, g .agents) (any-cong (choresOf s) (λ c l. ap (λ b. not (marksEasy s (ownerOf owners c) c) && b) (any-cong (agentsOf s) (λ j k. sym (tainted-takes c j k)))))
+      rw (g .chores, g .agents) (any-cong (choresOf s) (λ c l. ap (λ b. not (marksEasy s (ownerOf owners c) c) && b) (any-cong (agentsOf s) (λ j k. sym (connected-takes c j k)))))
 
   module _ {c : ℕ} (first : c ≡ firstBelow m (wasted s owners distances n)) where
     dominated-search : dominated (asMarked s) (ownerOf owners) ≡ ltb c m

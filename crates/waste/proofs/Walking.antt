@@ -9,19 +9,21 @@ use lib.ListN.{length, getD, set, take, drop, length-set}
 use lib.Seq.{length-take-le, getD-take, getD-set-same, getD-set-other, drop-set-lt}
 use borrow.Author.Tests.{ltb-true, leb-true, le-leb}
 use Rattle.finite.specs.Search.{anyBelow, firstBelow}
+use Rattle.finite.specs.Moves.{Moves}
 use Rattle.finite.proofs.Tests.{clash}
 use Rattle.finite.proofs.Below.{by-same, by-less}
 use Rattle.finite.proofs.Search.{any-first, any-intro, first-passes}
+use Rattle.finite.proofs.Moves.{moves-each}
 use Rattle.model.specs.Instance.{ownerOf}
 use Rattle.model.specs.Sheet.{agentsOf, choresOf, marksEasy, asMarked}
 use Rattle.model.specs.Promises.{Dominating}
-use Rattle.welfare.specs.Waste.{tainted}
+use Rattle.welfare.specs.Waste.{connected}
 use Rattle.welfare.proofs.Costs.{passes-elim}
 use Rattle.welfare.proofs.Domination.{Better, dominates-intro, dominates-cong}
-use Rattle.welfare.proofs.Allocations.{picks-allocation}
-use Rattle.welfare.proofs.Taint.{tainted-zero, tainted-added, tainted-distance}
-use Rattle.welfare.proofs.Handed.{Handed, set-handed, handed-range}
-use Rattle.welfare.proofs.Walk.{walk-start, walk-step, walk-back, walk-end}
+use Rattle.model.proofs.Allocations.{picks-allocation}
+use Rattle.welfare.proofs.Connected.{connected-zero, connected-added, connected-distance}
+use Rattle.welfare.proofs.Moves.{set-moves}
+use Rattle.welfare.proofs.Walk.{start-apart, walk-start, walk-holds, step-holds, step-apart, walk-step, walk-back, walk-end}
 use Rattle.given.specs.Given.{Given}
 use Rattle.given.specs.Burdens.{burdens}
 use Rattle.given.proofs.Burdens.{burdens-elim, burdened-search}
@@ -42,7 +44,7 @@ found-passes {n} t e l = rw e (first-passes n t (rw e at l))
 -- an agent away from the burdened can hand a chore on
 module _ {s owners distances : List ℕ} {n m h : ℕ} (g : Given s owners n m) (rings : Rings (asMarked s) (ownerOf owners) n distances) (away : Away distances n h) where
   passable-some : anyBelow m (passable s owners distances n (getD distances h 0) h) ≡ true
-  unfolding asMarked tainted
+  unfolding asMarked connected
   passable-some =
       let I = asMarked s in
       let x = ownerOf owners in
@@ -50,7 +52,7 @@ module _ {s owners distances : List ℕ} {n m h : ℕ} (g : Given s owners n m) 
       let top : getD distances h 0 ≡ suc t = omega (arith, away .away) in
       let small : n < noDistance = omega (arith, g .agents, g .valid .agentsFit) in
       let here : h < agentsOf s = omega (arith, g .agents, away .here) in
-      let v = tainted-added I x t h (rw top at (rings-reached rings small h here (away .has))) (rings-nearest rings small h here (away .has) t (omega (arith, top))) in
+      let v = connected-added I x t h (rw top at (rings-reached rings small h here (away .has))) (rings-nearest rings small h here (away .has) t (omega (arith, top))) in
       let j = v .next in
       let r = passes-elim I x h j (v .linked) in
       let e = r .chore in
@@ -140,12 +142,15 @@ module _ {s owners distances : List ℕ} {n m : ℕ} (g : Given s owners n m) (r
     pub way-start : {j : ℕ} {old mid : List ℕ} → Wasting s owners distances n m c j → Copied owners old mid → m ≤ length mid → OnTheWay s owners distances (set mid c (j + 1)) (set mid c (j + 1)) m c j
     unfolding asMarked ownerOf
     way-start {j} {mid = mid} w copied long =
-        let h = set-handed mid c j long below in
-        let move : Handed (choresOf s) (ownerOf owners) (ownerOf (set mid c (j + 1))) c j =
+        let same : (d : ℕ) → d < m → ownerOf mid d ≡ ownerOf owners d = λ d l. ap (λ v. v - 1) (copied .each d (omega (arith, g .size))) in
+        let h = set-moves mid c j long below (same c below) (start-apart (asMarked s) (ownerOf owners) c (chore below) hard (owner-agent g) j (w .easy)) in
+        let move : Moves (choresOf s) (ownerOf owners) (ownerOf (set mid c (j + 1))) c (ownerOf owners c) j =
         record {
           below = chore below;
-          there = h .there;
-          others = λ d l ne. h .others d (omega (arith, g .chores)) ne ∙ ap (λ v. v - 1) (copied .each d (omega (arith, g .chores, g .size)));
+          source = refl;
+          target = h .target;
+          apart = h .apart;
+          rest = λ d l ne. sym (same d (omega (arith, g .chores))) ∙ h .rest d (omega (arith, g .chores)) ne;
         } in
         record {
           walking =
@@ -167,7 +172,7 @@ module _ {s owners distances : List ℕ} {n m : ℕ} (g : Given s owners n m) (r
       pub way-has : getD distances h 0 < noDistance
       unfolding asMarked
       way-has =
-          omega (arith, few, g .agents, tainted-distance (asMarked s) (ownerOf owners) (getD distances h 0) h (w .walking .here) (w .walking .reached) (w .walking .nearest))
+          omega (arith, few, g .agents, connected-distance (asMarked s) (ownerOf owners) (getD distances h 0) h (w .walking .here) (w .walking .reached) (w .walking .nearest))
 
       pub way-away : 0 < getD distances h 0 → Away distances n h
       way-away l = record { here = way-here; has = way-has; away = l }
@@ -181,9 +186,12 @@ module _ {s owners distances : List ℕ} {n m : ℕ} (g : Given s owners n m) (r
           let t = getD distances h 0 - 1 in
           let top : getD distances h 0 ≡ suc t = omega (arith, e .nearer) in
           let small : t ≤ n = omega (arith, rings-at-most rings few h (agent way-here) way-has) in
-          let reached : tainted I x t r ≡ true = sym (rings .within t r small (agent (e .taker))) ∙ le-leb (getD distances r 0) t (omega (arith, e .nearer, top)) in
+          let reached : connected I x t r ≡ true = sym (rings .within t r small (agent (e .taker))) ∙ le-leb (getD distances r 0) t (omega (arith, e .nearer, top)) in
+          let way = rw top at (w .walking) in
+          let mine = step-holds I x c (chore below) hard (owner-agent g) (e .chore) way (chore (e .below)) (e .mine) in
+          let move = set-moves list (e .chore) r (w .long) (e .below) mine (step-apart I x c (chore below) hard (owner-agent g) r way reached) in
           let step =
-          walk-step I x c (chore below) hard (owner-agent g) (ownerOf list) (ownerOf (set list (e .chore) (r + 1))) h t r (e .chore) (rw top at (w .walking)) (agent (e .taker)) reached (chore (e .below)) (e .mine) (e .easyHere) (e .easyThere) (rw (g .chores) at (set-handed list (e .chore) r (w .long) (e .below))) in
+          walk-step I x c (chore below) hard (owner-agent g) (ownerOf list) (ownerOf (set list (e .chore) (r + 1))) h t r (e .chore) way (agent (e .taker)) reached (chore (e .below)) (e .mine) (e .easyHere) (e .easyThere) (rw (g .chores) at move) in
           let last : t ≡ getD distances r 0 =
           by-less (getD distances r 0) t
           (λ l. absurd (clash (rings-reached rings few r (agent (e .taker)) (omega (arith, e .nearer, way-has))) (step .nearest (getD distances r 0) l)))
@@ -203,7 +211,7 @@ module _ {s owners distances : List ℕ} {n m : ℕ} (g : Given s owners n m) (r
       module _ (arrived : getD distances h 0 ≡ 0) where
         pub way-burden : firstBelow m (burdens s owners h) < m
         way-burden =
-            ltb-true (firstBelow m (burdens s owners h)) m (sym (burdened-search g h) ∙ sym (tainted-zero (asMarked s) (ownerOf owners) h) ∙ rw arrived at (w .walking .reached))
+            ltb-true (firstBelow m (burdens s owners h)) m (sym (burdened-search g h) ∙ sym (connected-zero (asMarked s) (ownerOf owners) h) ∙ rw arrived at (w .walking .reached))
 
         -- the owner of c itself has been relieved
         way-back : h ≡ ownerOf owners c → Shown s owners old list m
@@ -224,17 +232,19 @@ module _ {s owners distances : List ℕ} {n m : ℕ} (g : Given s owners n m) (r
             let f = firstBelow m (burdens s owners h) in
             let first = ownerOf owners c in
             let both = burdens-elim s owners h f (first-passes m (burdens s owners h) way-burden) in
-            let move : Handed (choresOf s) (ownerOf list) (ownerOf (set list f (first + 1))) f first =
-            set-handed list f first (omega (arith, g .chores, w .long)) (omega (arith, g .chores, way-burden)) in
+            let way = rw arrived at (w .walking) in
+            let mine = walk-holds (asMarked s) (ownerOf owners) c (chore below) hard (owner-agent g) f way ne (chore way-burden) (both .0) in
+            let move : Moves (choresOf s) (ownerOf list) (ownerOf (set list f (first + 1))) f h first =
+            set-moves list f first (omega (arith, g .chores, w .long)) (omega (arith, g .chores, way-burden)) mine ne in
             record {
               long = simp length-set (w .long);
               positive = λ d l.
                   by-same d f
                   (λ q. rw (q, getD-set-same list f (first + 1) 0 (omega (arith, way-burden, w .long))) (omega arith))
                   (λ other. rw (getD-set-other list f d (first + 1) 0 other) (w .positive d l));
-              range = handed-range move (owner-agent g c (chore below)) (w .walking .range);
+              range = moves-each move (λ d o. o < agentsOf s) (owner-agent g c (chore below)) (w .walking .range);
               better =
-                  walk-end (asMarked s) (ownerOf owners) c (chore below) hard (owner-agent g) (g .valid .easier) (ownerOf list) (ownerOf (set list f (first + 1))) h f (rw arrived at (w .walking)) ne (chore way-burden) (both .0) (both .1) move;
+                  walk-end (asMarked s) (ownerOf owners) c (chore below) hard (owner-agent g) (g .valid .easier) (ownerOf list) (ownerOf (set list f (first + 1))) h f way ne (both .1) move;
               kept = drop-set-lt m list f (first + 1) way-burden ∙ w .kept;
             }
 

@@ -7,7 +7,7 @@ use lib.Dec.{eqb, leb}
 use lib.ListN.{length, getD}
 use Rattle.model.specs.Limits.{maxAgents}
 use Rattle.model.specs.Instance.{Instance}
-use Rattle.welfare.specs.Waste.{tainted}
+use Rattle.welfare.specs.Waste.{connected}
 
 -- the entry of an agent that no ring holds
 abbrev pub noDistance : ℕ
@@ -22,8 +22,8 @@ pub record Spread (n next : ℕ) (linked : ℕ → Bool) (old new : List ℕ) : 
   pub size : length new ≡ maxAgents
   pub each : (i : ℕ) → i < n → getD new i 0 ≡ nearer next (linked i) (getD old i 0)
 
--- the rings up to t: the agents at distance r or less are those that r steps taint, and the rest have no distance
+-- the rings up to t: the agents at distance r or less are those that r steps connect to a burdened one, and the rest have no distance
 pub record Rings (I : Instance) (x : ℕ → ℕ) (t : ℕ) (distances : List ℕ) : Type 0 where
   pub size : length distances ≡ maxAgents
-  pub within : (r i : ℕ) → r ≤ t → i < I .n → leb (getD distances i 0) r ≡ tainted I x r i
+  pub within : (r i : ℕ) → r ≤ t → i < I .n → leb (getD distances i 0) r ≡ connected I x r i
   pub beyond : (i : ℕ) → i < I .n → t < getD distances i 0 → getD distances i 0 ≡ noDistance

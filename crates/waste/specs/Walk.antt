@@ -7,7 +7,7 @@ use lib.ListN.{length, getD, set, drop}
 use Rattle.finite.specs.Search.{firstBelow}
 use Rattle.model.specs.Instance.{ownerOf}
 use Rattle.model.specs.Sheet.{agentsOf, marksEasy, asMarked}
-use Rattle.welfare.proofs.Walk.{Walking}
+use Rattle.welfare.specs.Walk.{Walking}
 use Rattle.given.specs.Given.{Given}
 use Rattle.given.specs.Burdens.{burdens}
 use Rattle.waste.specs.Rings.{noDistance, Rings}

@@ -1,6 +1,6 @@
-// Waste: whether another list dominates, and one that does. `taint` has the test, `walk` makes the list.
+// Waste: whether another list dominates, and one that does. `connected` has the test, `walk` makes the list.
 
-mod taint;
+mod connected;
 mod walk;
 
 ghost use Prim.Native.Nat.{_≤_};
@@ -14,13 +14,13 @@ pub fn show_waste(sheet: &[u8], owners: &[u8], n: usize, m: usize, dominating: &
     requires { ⌜ m ≤ length (now dominating) ⌝ }
     ensures { λ r. ⌜ WasteShown (now (sheet .entry)) (now (owners .entry)) (now (dominating .entry)) (now (dominating .exit)) r ⌝ }
 {
-    let mut distances = taint::no_distances();
-    taint::find_distances(sheet, owners, n, m, &mut distances);
-    let c = taint::first_wasted(sheet, owners, n, m, &distances);
+    let mut distances = connected::no_distances();
+    connected::find_distances(sheet, owners, n, m, &mut distances);
+    let c = connected::first_wasted(sheet, owners, n, m, &distances);
     if m <= c {
         return false;
     }
-    let j = taint::first_taker(sheet, n, m, &distances, taint::NO_DISTANCE, c);
+    let j = connected::first_taker(sheet, n, m, &distances, connected::NO_DISTANCE, c);
     walk::write_dominating(sheet, owners, n, m, &distances, c, j, dominating);
     true
 }

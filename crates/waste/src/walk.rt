@@ -1,7 +1,7 @@
-// A dominating list, for a list with a wasted chore: the chore goes to a tainted agent, who hands an easy chore on, and so on from ring to
-// ring, until a burdened agent is relieved.
+// A dominating list, for a list with a wasted chore: the chore goes to a connected agent, who hands an easy chore on, and so on from ring
+// to ring, until a burdened agent is relieved.
 
-use crate::taint;
+use crate::connected;
 ghost use mathlib.Core.Path.{_≡_};
 ghost use Prim.Native.Nat.{_≤_, _<_};
 ghost use lib.ListN.{length};
@@ -41,7 +41,7 @@ fn first_passable(
     while c < m {
         if given::owner(owners, c) == h {
             if sheet::marks_easy(sheet, m, h, c) {
-                if taint::first_taker(sheet, n, m, distances, limit, c) < n {
+                if connected::first_taker(sheet, n, m, distances, limit, c) < n {
                     return c;
                 }
             }
@@ -68,7 +68,7 @@ fn hand_on(
 {
     let limit = distances[h];
     let e = first_passable(sheet, owners, n, m, distances, limit, h);
-    let g = taint::first_taker(sheet, n, m, distances, limit, e);
+    let g = connected::first_taker(sheet, n, m, distances, limit, e);
     list[e] = (g + 1) as u8;
     g
 }

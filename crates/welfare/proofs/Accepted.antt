@@ -27,6 +27,11 @@ pub record Bought (I : Instance) (x p : ℕ → ℕ) : Type 0 where
   pub priced : (c : ℕ) → c < I .m → 0 < p c
   pub best-owned : (c : ℕ) → c < I .m → best I p (x c) c ≡ true
 
+-- what the agents pay together is the price of all chores, whoever owns what
+pub price-of-all : (n m : ℕ) (x p : ℕ → ℕ) → ((c : ℕ) → c < m → x c < n) → sumTo n (priceSum m x p) ≡ sumTo m p
+unfolding total owns
+price-of-all n m x p h = fibres n m x p h
+
 module _ (I : Instance) (x p : ℕ → ℕ) (b : Bought I x p) where
   -- a chore is best for the agent that owns it
   best-of : (i c : ℕ) → c < I .m → owns x i c ≡ true → best I p i c ≡ true
@@ -92,16 +97,11 @@ module _ (I : Instance) (x p : ℕ → ℕ) (b : Bought I x p) where
         (λ e. let r = any-elim (I .m) (owns x i) e in holder-falls i (r .index) (r .below) (r .passes) y g)
         (λ e. absurd (omega (arith, idle-cost I x i i e)))
 
-  -- what the agents pay together is the price of all chores, whoever owns what
-  price-of-all : (y : ℕ → ℕ) → ((c : ℕ) → c < I .m → y c < I .n) → sumTo (I .n) (λ i. priceSum (I .m) y p i) ≡ sumTo (I .m) p
-  unfolding total owns
-  price-of-all y h = fibres (I .n) (I .m) y p h
-
   -- no list dominates: it would have to cost less in all, at these prices
   pub bought-efficient : Weighted I → (y : ℕ → ℕ) → ((c : ℕ) → c < I .m → y c < I .n) → dominates I y x ≡ false
   bought-efficient w y h = not-dominated I y x λ better.
       let less = sum-strict {n = I .n} {f = λ i. priceSum (I .m) y p i} {g = λ i. priceSum (I .m) x p i} (λ i l. price-follows y i w (better .none-more i l)) (better .who) (better .below) (price-falls y (better .who) (better .less)) in
-      omega (arith, price-of-all y h, price-of-all x (b .owner))
+      omega (arith, price-of-all (I .n) (I .m) y p h, price-of-all (I .n) (I .m) x p (b .owner))
 
   bought-fair : (i j : ℕ) → (holdsAny (I .m) x i ≡ true → priceUpToOne (I .m) x p i ≤ priceSum (I .m) x p j) → fair I x i j ≡ true
   unfolding holdsAny dearest

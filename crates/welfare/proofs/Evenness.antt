@@ -2,7 +2,6 @@
 -- Assumes nothing.
 use Prim.Native.Nat.{ℕ, _+_, _≤_, _<_}
 use mathlib.Core.Bool.{Bool, true, false, cond, not, _&&_}
-use mathlib.Core.Logic.{_↔_}
 use mathlib.Core.Path.{_≡_, sym, ap, _∙_}
 use native.Mathlib.Nat.{le-of-eq}
 use native.Mathlib.Omega.{arith}
@@ -11,15 +10,14 @@ use borrow.Author.Tests.{leb-true, le-leb, not-true}
 use Rattle.finite.specs.Sums.{maxWhere}
 use Rattle.finite.specs.Search.{anyBelow, allBelow}
 use Rattle.finite.proofs.Tests.{by-test, by-cond, clash, bool-eq, not-on, not-yes, and-elim, and-intro, or-cases, or-left, or-right}
-use Rattle.finite.proofs.Search.{any-elim, any-intro, any-none, all-elim, all-intro, all-fails}
+use Rattle.finite.proofs.Search.{any-elim, any-intro, any-none, all-elim, all-intro}
 use Rattle.finite.proofs.Where.{where-none, where-off}
 use Rattle.finite.proofs.Extremes.{peak-attained, peak-above, peak-unique}
 use Rattle.model.specs.Instance.{Instance, cost}
 use Rattle.model.specs.Fairness.{owns, holdsAny, total, costTo, costWithout, fair, ef1}
-use Rattle.model.specs.Verdicts.{firstOfPair, secondOfPair, envies}
+use Rattle.model.specs.Verdicts.{envies}
 use Rattle.welfare.specs.Waste.{burdened}
 use Rattle.welfare.proofs.Costs.{owned, owned-by, cost-easy, cost-difficult, cost-at-most, burden-elim, burden-none}
-use Rattle.model.proofs.Pairs.{FirstPair, pair-some, pair-found}
 
 module _ (I : Instance) (x : ℕ → ℕ) where
   -- what an agent without chores has costs nothing
@@ -120,17 +118,6 @@ module _ (I : Instance) (x : ℕ → ℕ) where
   unfolding ef1
   ef1-intro all =
       all-intro (I .n) (λ i. allBelow (I .n) (λ j. fair I x i j)) λ i l. all-intro (I .n) (λ j. fair I x i j) (λ j. all i j l)
-
-  pub ef1-iff : (ef1 I x ≡ true) ↔ ((i j : ℕ) → i < I .n → j < I .n → fair I x i j ≡ true)
-  ef1-iff = (ef1-elim, ef1-intro)
-
-  -- a list that is not even has a first pair that shows it
-  pub uneven-pair : ef1 I x ≡ false → FirstPair (I .n) (envies I x) (firstOfPair (I .n) (envies I x)) (secondOfPair (I .n) (envies I x))
-  unfolding ef1 envies
-  uneven-pair e =
-      let r = all-fails (I .n) (λ i. allBelow (I .n) (λ j. fair I x i j)) e in
-      let s = all-fails (I .n) (λ j. fair I x (r .index) j) (r .fails) in
-      pair-found (I .n) (envies I x) (pair-some (I .n) (envies I x) (r .index) (s .index) (r .below) (s .below) (not-on (s .fails)))
 
   -- and a pair that envies shows that the list is not even
   pub uneven : (i j : ℕ) → i < I .n → j < I .n → envies I x i j ≡ true → ef1 I x ≡ false

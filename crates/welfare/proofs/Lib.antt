@@ -7,8 +7,9 @@ pub mod PriceVerdict
 pub mod ListVerdict
 pub mod NotRefused
 pub mod AcceptedSheet
-pub mod Taint
+pub mod Connected
 pub mod Wasteless
-pub mod Handed
+pub mod Moves
 pub mod Walk
 pub mod Waste
+pub mod Reading

@@ -1,4 +1,4 @@
--- Where the test for waste passes, a dominating list: the difficult chore goes to the tainted agent, and along a shortest walk each hands
+-- Where the test for waste passes, a dominating list: the difficult chore goes to the connected agent, and along a shortest walk each hands
 -- an easy chore on, until a burdened agent is relieved.
 -- Assumes nothing.
 use Prim.Native.Nat.{ℕ, zero, suc, _+_, _≤_, _<_}
@@ -8,25 +8,18 @@ use native.Mathlib.Nat.{le-refl}
 use native.Mathlib.Omega.{arith}
 use lib.Dec.{eqb}
 use borrow.Author.Tests.{ne-eqb}
+use Rattle.finite.specs.Moves.{Moves}
 use Rattle.finite.proofs.Tests.{clash, fails-of, eqb-same}
 use Rattle.finite.proofs.Below.{by-same}
+use Rattle.finite.proofs.Moves.{moved, moved-moves, moves-each}
 use Rattle.model.specs.Instance.{Instance}
 use Rattle.model.specs.Fairness.{costTo}
-use Rattle.welfare.specs.Waste.{tainted, wasteTest}
+use Rattle.welfare.specs.Waste.{connected, wasteTest}
+use Rattle.welfare.specs.Walk.{Walking}
 use Rattle.welfare.proofs.Costs.{cost-easy, cost-difficult, cost-at-most, burden-intro, burden-elim, passes-intro, passes-elim}
 use Rattle.welfare.proofs.Domination.{Better, Dominating}
-use Rattle.welfare.proofs.Handed.{Handed, handed, handed-is, handed-range, handed-cost}
-use Rattle.welfare.proofs.Taint.{tainted-zero, tainted-burdened, tainted-step, tainted-mono, tainted-added, tainted-first, waste-elim}
-
--- On the way: y is the list so far, and agent h, first tainted after t steps, has one easy chore too many. The owner of c in x has been
--- relieved of it, and for everybody else y costs what x does. What the agents still to be met own in x they own in y, c apart.
-pub record Walking (I : Instance) (x : ℕ → ℕ) (c : ℕ) (y : ℕ → ℕ) (h t : ℕ) : Type 0 where
-  pub here : h < I .n
-  pub reached : tainted I x t h ≡ true
-  pub nearest : (s : ℕ) → s < t → tainted I x s h ≡ false
-  pub range : (d : ℕ) → d < I .m → y d < I .n
-  pub kept : (d : ℕ) → d < I .m → (d ≡ c → ⊥) → tainted I x t (x d) ≡ true → y d ≡ x d
-  pub costs : (k : ℕ) → costTo I y k k + cond (eqb (x c) k) (I .b) 0 ≡ costTo I x k k + cond (eqb h k) (I .a) 0
+use Rattle.welfare.proofs.Moves.{moves-cost}
+use Rattle.welfare.proofs.Connected.{connected-zero, connected-burdened, connected-step, connected-mono, connected-added, connected-first, waste-elim}
 
 -- relieved of b where charged with a: no more than before
 relieved : (t : Bool) {y x a b : ℕ} → y + cond t b 0 ≡ x + cond t a 0 → a ≤ b → y ≤ x
@@ -41,43 +34,51 @@ relieved-twice false true y e f l k = omega arith
 relieved-twice false false y e f l k = omega arith
 
 module _ (I : Instance) (x : ℕ → ℕ) (c : ℕ) (below : c < I .m) (hard : I .easy (x c) c ≡ false) (owner : (d : ℕ) → d < I .m → x d < I .n) where
-  -- c goes to a tainted agent that finds it easy
-  pub walk-start : (z : ℕ → ℕ) (j t : ℕ) → j < I .n → I .easy j c ≡ true → tainted I x t j ≡ true → ((s : ℕ) → s < t → tainted I x s j ≡ false) → Handed (I .m) x z c j → Walking I x c z j t
-  walk-start z j t l e reached nearest h =
+  pub start-apart : (j : ℕ) → I .easy j c ≡ true → x c ≡ j → ⊥
+  start-apart j e q = clash e (rw q at hard)
+
+  -- c goes to a connected agent that finds it easy
+  pub walk-start : (z : ℕ → ℕ) (j t : ℕ) → j < I .n → I .easy j c ≡ true → connected I x t j ≡ true → ((s : ℕ) → s < t → connected I x s j ≡ false) → Moves (I .m) x z c (x c) j → Walking I x c z j t
+  walk-start z j t l e reached nearest v =
       record {
         here = l;
         reached = reached;
         nearest = nearest;
-        range = handed-range h l owner;
-        kept = λ d k ne _. h .others d k ne;
-        costs = handed-cost I h refl (cost-difficult I (x c) c hard) (cost-easy I j c e);
+        range = moves-each v (λ d o. o < I .n) l owner;
+        kept = λ d k ne _. sym (v .rest d k ne);
+        costs = moves-cost I v (cost-difficult I (x c) c hard) (cost-easy I j c e);
       }
 
   -- a chore of the current agent h is still h's, unless h is the owner of c
-  still : (y : ℕ → ℕ) (h t e : ℕ) → Walking I x c y h t → (h ≡ x c → ⊥) → e < I .m → x e ≡ h → y e ≡ h
-  still y h t e w ne k own =
+  pub walk-holds : {y : ℕ → ℕ} {h t : ℕ} (e : ℕ) → Walking I x c y h t → (h ≡ x c → ⊥) → e < I .m → x e ≡ h → y e ≡ h
+  walk-holds e w ne k own =
       w .kept e k (λ q. ne (sym own ∙ ap x q)) (rw own (w .reached)) ∙ own
 
-  -- the owner of c is tainted from the start, so the walk meets it at its end at the earliest
-  not-owner : (y : ℕ → ℕ) (h t : ℕ) → Walking I x c y h (suc t) → h ≡ x c → ⊥
-  not-owner y h t w q =
-      clash (tainted-burdened I x 0 (x c) (burden-intro I x (x c) c below refl hard)) (rw q at (w .nearest 0 (omega arith)))
+  -- the owner of c is burdened itself, so the walk meets it at its end at the earliest
+  not-owner : {y : ℕ → ℕ} {h t : ℕ} → Walking I x c y h (suc t) → h ≡ x c → ⊥
+  not-owner w q =
+      clash (connected-burdened I x 0 (x c) (burden-intro I x (x c) c below refl hard)) (rw q at (w .nearest 0 (omega arith)))
+
+  pub step-holds : {y : ℕ → ℕ} {h t : ℕ} (e : ℕ) → Walking I x c y h (suc t) → e < I .m → x e ≡ h → y e ≡ h
+  step-holds e w k own = walk-holds e w (not-owner w) k own
+
+  pub step-apart : {y : ℕ → ℕ} {h t : ℕ} (g : ℕ) → Walking I x c y h (suc t) → connected I x t g ≡ true → h ≡ g → ⊥
+  step-apart {t = t} g w reached q = clash reached (rw q at (w .nearest t (le-refl _)))
 
   -- h hands an easy chore to an agent nearer to the burdened, who finds it easy too
-  pub walk-step : (y z : ℕ → ℕ) (h t g e : ℕ) → Walking I x c y h (suc t) → g < I .n → tainted I x t g ≡ true → e < I .m → x e ≡ h → I .easy h e ≡ true → I .easy g e ≡ true → Handed (I .m) y z e g → Walking I x c z g t
-  walk-step y z h t g e w l reached k own here there f =
-      let mine = still y h (suc t) e w (not-owner y h t w) k own in
+  pub walk-step : (y z : ℕ → ℕ) (h t g e : ℕ) → Walking I x c y h (suc t) → g < I .n → connected I x t g ≡ true → e < I .m → x e ≡ h → I .easy h e ≡ true → I .easy g e ≡ true → Moves (I .m) y z e h g → Walking I x c z g t
+  walk-step y z h t g e w l reached k own here there v =
       let pass = passes-intro I x h g e k own here there in
-      let change = handed-cost I f mine (cost-easy I h e here) (cost-easy I g e there) in
+      let change = moves-cost I v (cost-easy I h e here) (cost-easy I g e there) in
       record {
         here = l;
         reached = reached;
-        nearest = λ s less. fails-of (λ q. tainted-step I x s h g l q pass) (w .nearest (suc s) (omega arith));
-        range = handed-range f l (w .range);
+        nearest = λ s less. fails-of (λ q. connected-step I x s h g l q pass) (w .nearest (suc s) (omega arith));
+        range = moves-each v (λ d o. o < I .n) l (w .range);
         kept = λ d kd ne q.
             by-same d e
             (λ same. absurd (clash q (rw (same, own) (w .nearest t (le-refl _)))))
-            (λ other. f .others d kd other ∙ w .kept d kd ne (tainted-mono I x (omega arith) (x d) q));
+            (λ other. sym (v .rest d kd other) ∙ w .kept d kd ne (connected-mono I x (omega arith) (x d) q));
         costs = λ i. omega (arith, w .costs i, change i);
       }
 
@@ -94,9 +95,9 @@ module _ (I : Instance) (x : ℕ → ℕ) (c : ℕ) (below : c < I .m) (hard : I
         }
 
     -- it came to another burdened agent, which hands a difficult chore to the owner of c
-    pub walk-end : (y z : ℕ → ℕ) (h f : ℕ) → Walking I x c y h 0 → (h ≡ x c → ⊥) → f < I .m → x f ≡ h → I .easy h f ≡ false → Handed (I .m) y z f (x c) → Better I z x
-    walk-end y z h f w ne k own difficult g =
-        let change = handed-cost I g (still y h 0 f w ne k own) (cost-difficult I h f difficult) refl in
+    pub walk-end : (y z : ℕ → ℕ) (h f : ℕ) → Walking I x c y h 0 → (h ≡ x c → ⊥) → I .easy h f ≡ false → Moves (I .m) y z f h (x c) → Better I z x
+    walk-end y z h f w ne difficult v =
+        let change = moves-cost I v (cost-difficult I h f difficult) refl in
         let apart : eqb (x c) h ≡ false = ne-eqb (x c) h (λ q. ne (sym q)) in
         let here : costTo I z h h + I .b ≡ costTo I y h h + 0 = rw (eqb-same h, apart) at (change h) in
         let before : costTo I y h h + 0 ≡ costTo I x h h + I .a = rw (eqb-same h, apart) at (w .costs h) in
@@ -110,27 +111,28 @@ module _ (I : Instance) (x : ℕ → ℕ) (c : ℕ) (below : c < I .m) (hard : I
 
     walk-last : (y : ℕ → ℕ) (h : ℕ) → Walking I x c y h 0 → (h ≡ x c → ⊥) → Dominating I x
     walk-last y h w ne =
-        let r = burden-elim I x h (sym (tainted-zero I x h) ∙ w .reached) in
+        let r = burden-elim I x h (sym (connected-zero I x h) ∙ w .reached) in
         let f = r .chore in
-        let move = handed-is y f (x c) (r .below) in
+        let move = moved-moves y (x c) (r .below) (walk-holds f w ne (r .below) (r .owner)) ne in
         record {
-          list = handed y f (x c);
-          range = handed-range move (owner c below) (w .range);
-          better = walk-end y (handed y f (x c)) h f w ne (r .below) (r .owner) (r .difficult) move;
+          list = moved y f (x c);
+          range = moves-each move (λ d o. o < I .n) (owner c below) (w .range);
+          better = walk-end y (moved y f (x c)) h f w ne (r .difficult) move;
         }
 
     -- from any point of the walk to its end
     pub walk-on : (t : ℕ) (y : ℕ → ℕ) (h : ℕ) → Walking I x c y h t → Dominating I x
-    unfolding tainted
+    unfolding connected
     walk-on zero y h w =
         by-same h (x c) (λ q. record { list = y; range = w .range; better = walk-back y (rw q at w) }) (walk-last y h w)
     walk-on (suc t) y h w =
-        let v = tainted-added I x t h (w .reached) (w .nearest t (le-refl _)) in
+        let v = connected-added I x t h (w .reached) (w .nearest t (le-refl _)) in
         let g = v .next in
         let r = passes-elim I x h g (v .linked) in
         let e = r .chore in
-        walk-on t (handed y e g) g
-        (walk-step y (handed y e g) h t g e w (v .below) (v .reached) (r .below) (r .owner) (r .easy-here) (r .easy-there) (handed-is y e g (r .below)))
+        let move = moved-moves y g (r .below) (step-holds e w (r .below) (r .owner)) (step-apart g w (v .reached)) in
+        walk-on t (moved y e g) g
+        (walk-step y (moved y e g) h t g e w (v .below) (v .reached) (r .below) (r .owner) (r .easy-here) (r .easy-there) move)
 
 -- a list that the test for waste picks out is dominated
 pub waste-dominated : (I : Instance) (x : ℕ → ℕ) → I .a < I .b → ((c : ℕ) → c < I .m → x c < I .n) → wasteTest I x ≡ true → Dominating I x
@@ -138,6 +140,7 @@ waste-dominated I x lt owner e =
     let w = waste-elim I x e in
     let c = w .chore in
     let j = w .taker in
-    let f = tainted-first I x (I .n) j (w .taker-tainted) in
-    walk-on I x c (w .below) (w .difficult) owner lt _ (handed x c j) j
-    (walk-start I x c (w .below) (w .difficult) owner (handed x c j) j _ (w .taker-below) (w .taker-easy) (f .passes) (f .before) (handed-is x c j (w .below)))
+    let f = connected-first I x (I .n) j (w .taker-connected) in
+    let move = moved-moves x j (w .below) refl (start-apart I x c (w .below) (w .difficult) owner j (w .taker-easy)) in
+    walk-on I x c (w .below) (w .difficult) owner lt _ (moved x c j) j
+    (walk-start I x c (w .below) (w .difficult) owner (moved x c j) j _ (w .taker-below) (w .taker-easy) (f .passes) (f .before) move)

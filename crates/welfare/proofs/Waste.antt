@@ -11,7 +11,7 @@ use Rattle.welfare.proofs.Allocations.{dominated-intro, undominated}
 use Rattle.welfare.proofs.Wasteless.{wasteless}
 use Rattle.welfare.proofs.Walk.{waste-dominated}
 
--- a list is wasteful exactly when some chore is difficult for its owner and easy for a tainted agent
+-- a list is wasteful exactly when some chore is difficult for its owner and easy for an agent that is connected to a burdened one
 pub waste-exact : (I : Instance) (x : ℕ → ℕ) → 0 < I .a → I .a < I .b → ((c : ℕ) → c < I .m → x c < I .n) → dominated I x ≡ wasteTest I x
 waste-exact I x pos lt owner =
     by-test (wasteTest I x)

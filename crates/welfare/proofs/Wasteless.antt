@@ -11,23 +11,23 @@ use Rattle.finite.proofs.Sums.{sum-mono, sum-strict}
 use Rattle.finite.proofs.Fibres.{fibres-weight}
 use Rattle.model.specs.Instance.{Instance, cost}
 use Rattle.model.specs.Fairness.{owns, total, costTo, dominates}
-use Rattle.welfare.specs.Waste.{tainted, wasteTest, weight}
+use Rattle.welfare.specs.Waste.{connected, wasteTest, weight}
 use Rattle.welfare.proofs.Costs.{Weighted, cost-easy, cost-difficult, cost-at-least, burden-intro, passes-intro}
 use Rattle.welfare.proofs.Domination.{not-dominated}
-use Rattle.welfare.proofs.Taint.{tainted-burdened, tainted-link, waste-intro}
+use Rattle.welfare.proofs.Connected.{connected-burdened, connected-link, waste-intro}
 
 module _ (I : Instance) (x : ℕ → ℕ) (w : Weighted I) where
-  weight-tainted : (i : ℕ) → tainted I x (I .n) i ≡ true → weight I x i ≡ I .a
+  weight-connected : (i : ℕ) → connected I x (I .n) i ≡ true → weight I x i ≡ I .a
   unfolding weight
-  weight-tainted i e = rw e
+  weight-connected i e = rw e
 
-  weight-other : (i : ℕ) → tainted I x (I .n) i ≡ false → weight I x i ≡ I .b
+  weight-other : (i : ℕ) → connected I x (I .n) i ≡ false → weight I x i ≡ I .b
   unfolding weight
   weight-other i e = rw e
 
   weight-at-least : (i : ℕ) → I .a ≤ weight I x i
   unfolding weight
-  weight-at-least i = le-cond (tainted I x (I .n) i) (λ e. le-refl _) (λ e. w .easy-least)
+  weight-at-least i = le-cond (connected I x (I .n) i) (λ e. le-refl _) (λ e. w .easy-least)
 
   -- agent i's cost of all its chores, weighted, summed over the agents: a sum over the chores
   weighted-sum : (y : ℕ → ℕ) → ((c : ℕ) → c < I .m → y c < I .n) → sumTo (I .n) (λ i. weight I x i * costTo I y i i) ≡ sumTo (I .m) (λ c. weight I x (y c) * cost I (y c) c)
@@ -35,38 +35,38 @@ module _ (I : Instance) (x : ℕ → ℕ) (w : Weighted I) where
   weighted-sum y h = fibres-weight (I .n) (I .m) y (weight I x) (cost I) h
 
   module _ (owner : (c : ℕ) → c < I .m → x c < I .n) (fine : wasteTest I x ≡ false) where
-    -- a chore difficult for its owner is difficult for the tainted
-    stays : (c j : ℕ) → c < I .m → j < I .n → I .easy (x c) c ≡ false → tainted I x (I .n) j ≡ true → I .easy j c ≡ false
+    -- a chore difficult for its owner is difficult for every connected agent
+    stays : (c j : ℕ) → c < I .m → j < I .n → I .easy (x c) c ≡ false → connected I x (I .n) j ≡ true → I .easy j c ≡ false
     stays c j l k d h =
         not-yes (I .easy j c) λ e.
-        clash (waste-intro (record { chore = c; below = l; difficult = d; taker = j; taker-below = k; taker-tainted = h; taker-easy = e })) fine
+        clash (waste-intro (record { chore = c; below = l; difficult = d; taker = j; taker-below = k; taker-connected = h; taker-easy = e })) fine
 
-    -- what an agent that is not tainted owns is easy for it, and difficult for the tainted
-    easy-outside : (c : ℕ) → c < I .m → tainted I x (I .n) (x c) ≡ false → I .easy (x c) c ≡ true
+    -- what an agent that is not connected owns is easy for it, and difficult for the connected
+    easy-outside : (c : ℕ) → c < I .m → connected I x (I .n) (x c) ≡ false → I .easy (x c) c ≡ true
     easy-outside c l out =
-        not-no (I .easy (x c) c) (λ d. clash (tainted-burdened I x (I .n) (x c) (burden-intro I x (x c) c l refl d)) out)
+        not-no (I .easy (x c) c) (λ d. clash (connected-burdened I x (I .n) (x c) (burden-intro I x (x c) c l refl d)) out)
 
-    difficult-inside : (c j : ℕ) → c < I .m → j < I .n → tainted I x (I .n) (x c) ≡ false → tainted I x (I .n) j ≡ true → I .easy j c ≡ false
+    difficult-inside : (c j : ℕ) → c < I .m → j < I .n → connected I x (I .n) (x c) ≡ false → connected I x (I .n) j ≡ true → I .easy j c ≡ false
     difficult-inside c j l k out h =
         not-yes (I .easy j c) λ e.
-        clash (tainted-link I x (x c) j (owner c l) k h (passes-intro I x (x c) j c l refl (easy-outside c l out) e)) out
+        clash (connected-link I x (x c) j (owner c l) k h (passes-intro I x (x c) j c l refl (easy-outside c l out) e)) out
 
-    -- under the weights no chore has a cheaper owner than its own: one that is difficult for a tainted owner,
+    -- under the weights no chore has a cheaper owner than its own: one that is difficult for a connected owner,
     cheapest-difficult : (c j : ℕ) → c < I .m → j < I .n → I .easy (x c) c ≡ false → I .a * I .b ≤ weight I x j * cost I j c
     cheapest-difficult c j l k d =
-        by-test (tainted I x (I .n) j)
-        (λ g. rw (weight-tainted j g, cost-difficult I j c (stays c j l k d g)) (le-refl _))
+        by-test (connected I x (I .n) j)
+        (λ g. rw (weight-connected j g, cost-difficult I j c (stays c j l k d g)) (le-refl _))
         (λ g. rw (weight-other j g) (omega (arith, mul-le-mul-left (I .b) (cost-at-least I j c (w .easy-least)))))
 
-    -- one whose owner is not tainted,
-    cheapest-outside : (c j : ℕ) → c < I .m → j < I .n → tainted I x (I .n) (x c) ≡ false → I .b * I .a ≤ weight I x j * cost I j c
+    -- one whose owner is not connected,
+    cheapest-outside : (c j : ℕ) → c < I .m → j < I .n → connected I x (I .n) (x c) ≡ false → I .b * I .a ≤ weight I x j * cost I j c
     cheapest-outside c j l k h =
-        by-test (tainted I x (I .n) j)
-        (λ g. rw (weight-tainted j g, cost-difficult I j c (difficult-inside c j l k h g)) (omega arith))
+        by-test (connected I x (I .n) j)
+        (λ g. rw (weight-connected j g, cost-difficult I j c (difficult-inside c j l k h g)) (omega arith))
         (λ g. rw (weight-other j g) (mul-le-mul-left (I .b) (cost-at-least I j c (w .easy-least))))
 
-    -- or one that is easy for a tainted owner, at the least cost there is
-    cheapest-inside : (c j : ℕ) → c < I .m → j < I .n → tainted I x (I .n) (x c) ≡ true → I .a * cost I (x c) c ≤ weight I x j * cost I j c
+    -- or one that is easy for a connected owner, at the least cost there is
+    cheapest-inside : (c j : ℕ) → c < I .m → j < I .n → connected I x (I .n) (x c) ≡ true → I .a * cost I (x c) c ≤ weight I x j * cost I j c
     cheapest-inside c j l k h =
         by-test (I .easy (x c) c)
         (λ e. rw (cost-easy I (x c) c e) (mul-le-mul (weight-at-least j) (cost-at-least I j c (w .easy-least))))
@@ -74,8 +74,8 @@ module _ (I : Instance) (x : ℕ → ℕ) (w : Weighted I) where
 
     pub cheapest : (c j : ℕ) → c < I .m → j < I .n → weight I x (x c) * cost I (x c) c ≤ weight I x j * cost I j c
     cheapest c j l k =
-        by-test (tainted I x (I .n) (x c))
-        (λ h. rw (weight-tainted (x c) h) (cheapest-inside c j l k h))
+        by-test (connected I x (I .n) (x c))
+        (λ h. rw (weight-connected (x c) h) (cheapest-inside c j l k h))
         (λ h. rw (weight-other (x c) h, cost-easy I (x c) c (easy-outside c l h)) (cheapest-outside c j l k h))
 
     -- so in all no list is cheaper under the weights, and a dominating one would be

@@ -1,1 +1,3 @@
 pub mod Waste
+pub mod Walk
+pub mod Reading

@@ -14,15 +14,15 @@ burdened I x i = anyBelow (I .m) (λ c. owns x i c && not (I .easy i c))
 unfoldable pub passesOn : Instance → (ℕ → ℕ) → ℕ → ℕ → Bool
 passesOn I x i j = anyBelow (I .m) (λ c. owns x i c && (I .easy i c && I .easy j c))
 
--- agent i can pass an easy chore on, from agent to agent in t steps or fewer, to a burdened one
-unfoldable pub tainted : Instance → (ℕ → ℕ) → ℕ → ℕ → Bool
-tainted I x t i = reach (I .n) (burdened I x) (passesOn I x) t i
+-- agent i is connected to a burdened agent: it can pass an easy chore on, from agent to agent in t steps or fewer, to a burdened one
+unfoldable pub connected : Instance → (ℕ → ℕ) → ℕ → ℕ → Bool
+connected I x t i = reach (I .n) (burdened I x) (passesOn I x) t i
 
--- some chore is difficult for its owner and easy for a tainted agent
+-- some chore is difficult for its owner and easy for a connected agent
 unfoldable pub wasteTest : Instance → (ℕ → ℕ) → Bool
 wasteTest I x =
-    anyBelow (I .m) (λ c. not (I .easy (x c) c) && anyBelow (I .n) (λ j. tainted I x (I .n) j && I .easy j c))
+    anyBelow (I .m) (λ c. not (I .easy (x c) c) && anyBelow (I .n) (λ j. connected I x (I .n) j && I .easy j c))
 
--- what counts an agent's costs for or against a change of owner: a for a tainted agent, b for another
+-- what counts an agent's costs for or against a change of owner: a for a connected agent, b for another
 unfoldable pub weight : Instance → (ℕ → ℕ) → ℕ → ℕ
-weight I x i = cond (tainted I x (I .n) i) (I .a) (I .b)
+weight I x i = cond (connected I x (I .n) i) (I .a) (I .b)

@@ -1,11 +1,11 @@
 -- `book::no_sheets` meets its contract.
 -- Assumes nothing.
-use borrow.Author.Needs.{needs}
+use mathlib.Core.Path.{refl}
 use Rattle.book.proofs.no_sheets.Statement.{statement}
 use Rattle.book.proofs.no_sheets.Tie as tie
 
 returns : tie.Need-returns
-returns c = search needs
+returns c = refl
 
 pub no-sheets-spec : {M : Type 1} → statement M
 no-sheets-spec = tie.close (tie.spec returns)

@@ -13,6 +13,9 @@ array-write-book-2 c = search needs
 array-write-book-3 : tie.Need-array-write-book-3
 array-write-book-3 c = search needs
 
+array-write-book-4 : tie.Need-array-write-book-4
+array-write-book-4 c = search needs
+
 sub-write-sheet : tie.Need-sub-write-sheet
 sub-write-sheet c = search needs
 
@@ -34,14 +37,11 @@ slice-aggregate-print-case c = search needs
 print-case-requires : tie.Need-print-case-requires
 print-case-requires c κs = search needs
 
-slice-aggregate-lookup-refusal : tie.Need-slice-aggregate-lookup-refusal
-slice-aggregate-lookup-refusal c = simp (length-append, length-drop) (omega arith)
+slice-aggregate-look-up : tie.Need-slice-aggregate-look-up
+slice-aggregate-look-up c = simp (length-append, length-drop) (omega arith)
 
-lookup-refusal-requires : tie.Need-lookup-refusal-requires
-lookup-refusal-requires c κs = search needs
-
-print-lookup-requires : tie.Need-print-lookup-requires
-print-lookup-requires c κs = search needs
+look-up-requires : tie.Need-look-up-requires
+look-up-requires c κs = search needs
 
 returns : tie.Need-returns
 returns c = search needs
@@ -53,6 +53,7 @@ try-lookup-spec =
     array-write-book
     array-write-book-2
     array-write-book-3
+    array-write-book-4
     sub-write-sheet
     part-book-start
     part-book-end
@@ -60,7 +61,6 @@ try-lookup-spec =
     write-sheet-requires
     slice-aggregate-print-case
     print-case-requires
-    slice-aggregate-lookup-refusal
-    lookup-refusal-requires
-    print-lookup-requires
+    slice-aggregate-look-up
+    look-up-requires
     returns)

@@ -4,11 +4,12 @@ use mathlib.Core.Path.{_≡_}
 use native.Mathlib.Nat.{mod-lt}
 use lib.ListN.{length}
 use borrow.Author.Needs.{needs}
+use Rattle.model.specs.Sheet.{headerSize}
 use Rattle.cases.proofs.write_rows.Statement.{statement}
 use Rattle.cases.proofs.write_rows.Tie as tie
 
 abbrev Inv-loop : tie.InvT-loop
-Inv-loop sheet₀ marks k₀ sheet k = (6 ≤ k) × (k ≤ length sheet₀) × (length sheet ≡ length sheet₀)
+Inv-loop sheet₀ marks k₀ sheet k = (headerSize ≤ k) × (k ≤ length sheet₀) × (length sheet ≡ length sheet₀)
 
 abbrev μ-loop : tie.MeasureT-loop
 μ-loop sheet₀ marks k₀ sheet k = length sheet₀ - k

@@ -2,6 +2,7 @@ use Prim.Native.Nat.{_-_, _≤_, _<_}
 use mathlib.Core.Path.{_≡_}
 use native.Mathlib.Omega.{arith}
 use borrow.Author.Needs.{needs}
+use Rattle.model.specs.Limits.{maxAgents}
 use Rattle.model.specs.Instance.{ownerOf}
 use Rattle.model.specs.Sheet.{asMarked, agentsOf}
 use Rattle.evenness.specs.Sums.{Summed}
@@ -21,7 +22,7 @@ agent : (c : tie.After-cost Inv-loop μ-loop) → c .before .owner .result < age
 agent c =
     rw (c .before .owner .ensures .is) (owner-below (c .before .before .before .before .before .before .before .before .pre .0) _ (c .before .before .loop-test .taken))
 
-few : (c : tie.After-cost Inv-loop μ-loop) → c .before .owner .result < 32
+few : (c : tie.After-cost Inv-loop μ-loop) → c .before .owner .result < maxAgents
 few c = omega (arith, agent c, c .before .before .before .before .before .before .before .before .pre .0 .valid .agentsFit)
 
 easy-weight-requires : tie.Need-easy-weight-requires Inv-loop μ-loop

@@ -1,15 +1,11 @@
-use mathlib.Core.Path.{_≡_, sym, _∙_}
+-- `listcheck::list_refusal` meets its contract: the sheet decides, or else the list of owners, or else what is lent.
+use mathlib.Core.Path.{sym, _∙_}
 use borrow.Author.Needs.{needs}
-use Rattle.model.specs.Sheet.{agentsOf, choresOf}
-use Rattle.model.specs.Refusals.{ownersRefusal, listRefusal}
+use Rattle.model.specs.Refusals.{listRefusal}
 use Rattle.sheet.proofs.OrElse.{or-else-stop, or-else-go}
 use Rattle.sheet.proofs.Refusal.{valid}
 use Rattle.listcheck.proofs.list_refusal.Statement.{statement}
 use Rattle.listcheck.proofs.list_refusal.Tie as tie
-
--- the list of owners is judged with the sheet's own numbers
-owners-judged : (c : tie.After-owners-refusal) → c .owners-refusal .result ≡ ownersRefusal (agentsOf (c .before .before .before .before .before .before .before .args .sheet .now)) (choresOf (c .before .before .before .before .before .before .before .args .sheet .now)) (c .before .before .before .before .before .before .before .args .owners .now)
-owners-judged c = rw (← c .before .before .agents .ensures .is, ← c .before .chores .ensures .is) (c .owners-refusal .ensures)
 
 sheet-refusal-requires : tie.Need-sheet-refusal-requires
 sheet-refusal-requires c κs = search needs
@@ -30,15 +26,15 @@ owners-refusal-requires c κs = search needs
 lent-refusal-requires : tie.Need-lent-refusal-requires
 lent-refusal-requires c κs = search needs
 
+or-else-requires : tie.Need-or-else-requires
+or-else-requires c κs = search needs
+
 returns-2 : tie.Need-returns-2
 unfolding listRefusal
-returns-2 c = or-else-go (c .before .before .before .before .before .before .sheet-refusal .ensures) (c .before .before .before .before .before .if1 .left) (or-else-stop _ (owners-judged (c .before .before)) (c .if2 .taken))
-
-returns-3 : tie.Need-returns-3
-unfolding listRefusal
-returns-3 c =
-    let lent = rw (c .before .before .before .chores .ensures .is) at (c .before .lent-refusal .ensures) in
-    or-else-go (c .before .before .before .before .before .before .sheet-refusal .ensures) (c .before .before .before .before .before .if1 .left) (or-else-go (owners-judged (c .before .before)) (c .if2 .left) lent)
+returns-2 c =
+    let read = c .before .before .before in
+    let fine = read .before .before in
+    or-else-go (fine .before .sheet-refusal .ensures) (fine .if1 .left) (rw (c .or-else .ensures, c .before .lent-refusal .ensures, c .before .before .owners-refusal .ensures, read .chores .ensures .is, read .before .agents .ensures .is))
 
 pub list-refusal-spec : {M : Type 1} → statement M
 list-refusal-spec =
@@ -50,5 +46,5 @@ list-refusal-spec =
     chores-requires
     owners-refusal-requires
     lent-refusal-requires
-    returns-2
-    returns-3)
+    or-else-requires
+    returns-2)

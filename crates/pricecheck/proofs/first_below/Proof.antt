@@ -7,11 +7,12 @@ use borrow.Author.Tests.{lt-ltb, le-ltb}
 use borrow.Author.Needs.{needs}
 use Rattle.finite.specs.Search.{firstBelow}
 use Rattle.finite.proofs.Search.{first-zero, first-stop, first-miss}
+use Rattle.model.specs.Limits.{maxAgents}
 use Rattle.pricecheck.proofs.first_below.Statement.{statement}
 use Rattle.pricecheck.proofs.first_below.Tie as tie
 
 abbrev Inv-loop : tie.InvT-loop
-Inv-loop n sums limit j₀ j = (n ≤ 32) × (j ≤ n) × (firstBelow j (λ j. ltb (getD sums j 0) limit) ≡ j)
+Inv-loop n sums limit j₀ j = (n ≤ maxAgents) × (j ≤ n) × (firstBelow j (λ j. ltb (getD sums j 0) limit) ≡ j)
 
 abbrev μ-loop : tie.MeasureT-loop
 μ-loop n sums limit j₀ j = n - j

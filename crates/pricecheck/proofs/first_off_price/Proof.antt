@@ -5,6 +5,7 @@ use native.Mathlib.Omega.{arith}
 use borrow.Author.Needs.{needs}
 use Rattle.finite.specs.Search.{firstBelow}
 use Rattle.finite.proofs.Search.{first-zero, first-stop, first-miss}
+use Rattle.model.specs.Limits.{maxAgents}
 use Rattle.given.proofs.Given.{given-owned}
 use Rattle.pricecheck.proofs.Refusals.{given-rated}
 use Rattle.pricecheck.proofs.Off.{isOff, first-off-is, owner-among, off-compared, off-is}
@@ -33,7 +34,7 @@ owner-requires : tie.Need-owner-requires Inv-loop μ-loop
 owner-requires c κs = given-owned (c .before .before .before .before .before .before .before .before .pre .given) (c .before .loop .c) (c .loop-test .taken)
 
 -- the agents have their places
-placed : (c : tie.After-owner Inv-loop μ-loop) → c .owner .result < 32
+placed : (c : tie.After-owner Inv-loop μ-loop) → c .owner .result < maxAgents
 placed c =
     let g = c .before .before .before .before .before .before .before .before .before .pre in
     omega (arith, owner-among g (c .before .before .before .least-ratios .ensures) (c .before .before .loop .c) (c .owner .result) (c .before .loop-test .taken) (c .owner .ensures .is), g .given .agents, g .given .valid .agentsFit)

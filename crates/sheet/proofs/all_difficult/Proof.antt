@@ -1,5 +1,4 @@
--- `sheet::all_difficult` meets its contract. The loop's invariant: no chore passed is marked easy. The sheet is valid, so that says
--- that each is marked difficult.
+-- `sheet::all_difficult` meets its contract. The loop's invariant: no chore passed is marked easy.
 use Prim.Native.Nat.{_-_, _≤_}
 use mathlib.Core.Path.{_≡_, sym, _∙_}
 use mathlib.Core.Bool.{true, not}
@@ -27,9 +26,8 @@ marks-easy-requires c κs = search needs
 
 returns : tie.Need-returns Inv-loop μ-loop
 returns c =
-    let row = c .before .before .before .before .before .pre in
     let easy = sym (c .before .marks-easy .ensures) ∙ c .if1 .taken in
-    rw (all-difficult-row (row .valid) (row .agent))
+    rw all-difficult-row
     (sym (all-fails-intro _ (c .before .before .before .loop .c) (omega arith) (not-off easy)))
 
 add-c : tie.Need-add-c Inv-loop μ-loop
@@ -45,8 +43,7 @@ loop-again c =
 
 returns-2 : tie.Need-returns-2 Inv-loop μ-loop
 returns-2 c =
-    let row = c .before .before .before .pre in
-    rw (all-difficult-row (row .valid) (row .agent)) (sym (all-fewer _ (omega arith) (c .before .loop .inv .1)))
+    rw all-difficult-row (sym (all-fewer _ (omega arith) (c .before .loop .inv .1)))
 
 pub all-difficult-spec : {M : Type 1} → statement M
 all-difficult-spec =

@@ -1,37 +1,47 @@
--- `sheet::header_refusal` meets its contract: each return by the tests that led there.
-use mathlib.Core.Path.{sym, _∙_}
+-- `sheet::header_refusal` meets its contract: three refusals in a row.
 use borrow.Author.Needs.{needs}
-use Rattle.sheet.proofs.Refusal.{refused-agents, refused-chores, refused-weights, header-fine}
+use Rattle.model.specs.Refusals.{headerRefusal}
+use Rattle.sheet.proofs.OrElse.{or-else-assoc}
 use Rattle.sheet.proofs.header_refusal.Statement.{statement}
 use Rattle.sheet.proofs.header_refusal.Tie as tie
 
-agents-fault-requires : tie.Need-agents-fault-requires
-agents-fault-requires c κs = search needs
+out-of-range-requires : tie.Need-out-of-range-requires
+out-of-range-requires c κs = search needs
 
-returns : tie.Need-returns
-returns c = sym (refused-agents _ _ _ _ (sym (c .before .agents-fault .ensures) ∙ c .if1 .taken))
+when-requires : tie.Need-when-requires
+when-requires c κs = search needs
 
-returns-2 : tie.Need-returns-2
-returns-2 c =
-    let agents = sym (c .before .before .agents-fault .ensures) ∙ c .before .if1 .left in
-    sym (refused-chores _ _ _ _ agents (c .if2 .taken))
+when-requires-2 : tie.Need-when-requires-2
+when-requires-2 c κs = search needs
+
+or-else-requires : tie.Need-or-else-requires
+or-else-requires c κs = search needs
 
 weights-fault-requires : tie.Need-weights-fault-requires
 weights-fault-requires c κs = search needs
 
-returns-3 : tie.Need-returns-3
-returns-3 c =
-    let agents = sym (c .before .before .before .before .agents-fault .ensures) ∙ c .before .before .before .if1 .left in
-    let weights = sym (c .before .weights-fault .ensures) ∙ c .if3 .taken in
-    sym (refused-weights _ _ _ _ agents (c .before .before .if2 .left) weights)
+when-requires-3 : tie.Need-when-requires-3
+when-requires-3 c κs = search needs
 
-returns-4 : tie.Need-returns-4
-returns-4 c =
-    let agents = sym (c .before .before .before .before .agents-fault .ensures) ∙ c .before .before .before .if1 .left in
-    let weights = sym (c .before .weights-fault .ensures) ∙ c .if3 .left in
-    sym (header-fine _ _ _ _ agents (c .before .before .if2 .left) weights)
+or-else-requires-2 : tie.Need-or-else-requires-2
+or-else-requires-2 c κs = search needs
+
+returns : tie.Need-returns
+unfolding headerRefusal
+returns c =
+    let two = c .before .before .before in
+    let one = two .before .before in
+    rw (c .or-else2 .ensures, c .before .when3 .ensures, c .before .before .weights-fault .ensures, two .or-else .ensures, two .before .when2 .ensures, one .when .ensures, one .before .out-of-range .ensures, or-else-assoc)
 
 pub header-refusal-spec : {M : Type 1} → statement M
 header-refusal-spec =
     tie.close
-    (tie.spec agents-fault-requires returns returns-2 weights-fault-requires returns-3 returns-4)
+    (tie.spec
+    out-of-range-requires
+    when-requires
+    when-requires-2
+    or-else-requires
+    weights-fault-requires
+    when-requires-3
+    or-else-requires-2
+    returns)

@@ -1,15 +1,14 @@
-use borrow.Author.Tests.{lt-ltb, le-ltb}
+use borrow.Author.Needs.{needs}
 use Rattle.model.specs.Refusals.{lentRefusal}
 use Rattle.sheet.proofs.lent_refusal.Statement.{statement}
 use Rattle.sheet.proofs.lent_refusal.Tie as tie
 
+when-requires : tie.Need-when-requires
+when-requires c κs = search needs
+
 returns : tie.Need-returns
 unfolding lentRefusal
-returns c = rw (lt-ltb _ _ (c .if1 .taken))
-
-returns-2 : tie.Need-returns-2
-unfolding lentRefusal
-returns-2 c = rw (le-ltb _ _ (c .if1 .left))
+returns c = search needs
 
 pub lent-refusal-spec : {M : Type 1} → statement M
-lent-refusal-spec = tie.close (tie.spec returns returns-2)
+lent-refusal-spec = tie.close (tie.spec when-requires returns)

@@ -1,6 +1,6 @@
 -- `sheet::marks_easy` meets its contract: the mark lies inside the sheet, so that no sum on the way to it wraps.
 use native.Mathlib.Omega.{arith}
-use Rattle.model.specs.Sheet.{markAt, marksEasy}
+use Rattle.model.specs.Sheet.{markAt, isDifficult, marksEasy}
 use Rattle.sheet.proofs.Marks.{inside}
 use Rattle.sheet.proofs.marks_easy.Statement.{statement}
 use Rattle.sheet.proofs.marks_easy.Tie as tie
@@ -18,7 +18,7 @@ shared-slice-read-result : tie.Need-shared-slice-read-result
 shared-slice-read-result c = inside (c .before .pre)
 
 returns : tie.Need-returns
-unfolding markAt marksEasy
+unfolding markAt isDifficult marksEasy
 returns c = rw (c .before .pre .chores)
 
 pub marks-easy-spec : {M : Type 1} → statement M

@@ -6,7 +6,7 @@ use native.Mathlib.Omega.{arith}
 use borrow.Author.Needs.{needs}
 use Rattle.finite.proofs.Tests.{or-none-intro}
 use Rattle.finite.proofs.Search.{any-zero, any-next, any-intro}
-use Rattle.sheet.specs.Parts.{marksFault}
+use Rattle.model.specs.Refusals.{marksFault}
 use Rattle.sheet.proofs.marks_fault.Statement.{statement}
 use Rattle.sheet.proofs.marks_fault.Tie as tie
 

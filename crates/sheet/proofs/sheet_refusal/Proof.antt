@@ -1,31 +1,21 @@
--- `sheet::sheet_refusal` meets its contract: each return by its law, from the tests that led there.
-use mathlib.Core.Path.{sym, _∙_}
+-- `sheet::sheet_refusal` meets its contract, by the test of the header's length.
+use Prim.Native.Nat.{_*_, _<_}
 use native.Mathlib.Nat.{mul-le-mul}
 use native.Mathlib.Omega.{arith}
 use borrow.Author.Needs.{needs}
-use Rattle.sheet.proofs.Refusal.{Header, refused-short, refused-header, refused-length, refused-marks, not-refused}
+use borrow.Author.Tests.{lt-ltb, le-ltb}
+use Rattle.model.specs.Sheet.{sheetLength}
+use Rattle.model.specs.Refusals.{_orElse_, sheetRefusal}
 use Rattle.sheet.proofs.sheet_refusal.Statement.{statement}
 use Rattle.sheet.proofs.sheet_refusal.Tie as tie
 
--- what was read, once all of the header was
-header :
-    (c : tie.After-difficult-weight)
-    → Header (c .before .before .before .before .before .before .args .sheet .now)
-    (c .before .before .before .agents .result)
-    (c .before .before .chores .result)
-    (c .before .easy-weight .result)
-    (c .difficult-weight .result)
-header c =
-    record {
-      long = c .before .before .before .before .if1 .left;
-      agents = c .before .before .before .agents .ensures .is;
-      chores = c .before .before .chores .ensures .is;
-      easy = c .before .easy-weight .ensures .is;
-      difficult = c .difficult-weight .ensures .is;
-    }
+-- a product of two bytes
+few-marks : (c : tie.After-chores) → c .before .agents .result * c .chores .result < 65536
+few-marks c = omega (arith, mul-le-mul (c .before .agents .ensures .below) (c .chores .ensures .below))
 
 returns : tie.Need-returns
-returns c = sym (refused-short _ (c .if1 .taken))
+unfolding sheetRefusal _orElse_
+returns c = rw (lt-ltb _ _ (c .if1 .taken))
 
 agents-requires : tie.Need-agents-requires
 agents-requires c κs = search needs
@@ -42,42 +32,22 @@ difficult-weight-requires c κs = search needs
 header-refusal-requires : tie.Need-header-refusal-requires
 header-refusal-requires c κs = search needs
 
+mul-body-refusal : tie.Need-mul-body-refusal
+mul-body-refusal c = omega (arith, few-marks (c .before .before .before))
+
+body-refusal-requires : tie.Need-body-refusal-requires
+body-refusal-requires c κs = (search needs, few-marks (c .before .before .before))
+
+or-else-requires : tie.Need-or-else-requires
+or-else-requires c κs = search needs
+
 returns-2 : tie.Need-returns-2
-returns-2 c = refused-header (header (c .before .before)) (c .before .header-refusal .ensures) (c .if2 .taken)
-
-mul-marks : tie.Need-mul-marks
-mul-marks c =
-    let n = c .before .before .before .before .before .agents .ensures in
-    let m = c .before .before .before .before .chores .ensures in
-    omega (arith, mul-le-mul (n .below) (m .below))
-
-add-if3 : tie.Need-add-if3
-add-if3 c =
-    let n = c .before .before .before .before .before .agents .ensures in
-    let m = c .before .before .before .before .chores .ensures in
-    omega (arith, mul-le-mul (n .below) (m .below))
-
-returns-3 : tie.Need-returns-3
-returns-3 c =
-    let judged = c .before .before .header-refusal .ensures in
-    sym (refused-length (header (c .before .before .before)) judged (c .before .if2 .left) (omega arith))
-
-marks-fault-requires : tie.Need-marks-fault-requires
-marks-fault-requires c κs = search needs
-
-returns-4 : tie.Need-returns-4
-returns-4 c =
-    let judged = c .before .before .before .before .header-refusal .ensures in
-    let marks = sym (c .before .marks-fault .ensures) ∙ c .if4 .taken in
-    let read = header (c .before .before .before .before .before) in
-    sym (refused-marks read judged (c .before .before .before .if2 .left) (omega arith) marks)
-
-returns-5 : tie.Need-returns-5
-returns-5 c =
-    let judged = c .before .before .before .before .header-refusal .ensures in
-    let marks = sym (c .before .marks-fault .ensures) ∙ c .if4 .left in
-    let read = header (c .before .before .before .before .before) in
-    sym (not-refused read judged (c .before .before .before .if2 .left) (omega arith) marks)
+unfolding sheetRefusal sheetLength _orElse_
+returns-2 c =
+    let header = c .before .before in
+    let weights = header .before in
+    let counts = weights .before .before in
+    rw (c .or-else .ensures, header .header-refusal .ensures, c .before .body-refusal .ensures, weights .difficult-weight .ensures .is, weights .before .easy-weight .ensures .is, counts .chores .ensures .is, counts .before .agents .ensures .is, le-ltb _ _ (counts .before .before .if1 .left))
 
 pub sheet-refusal-spec : {M : Type 1} → statement M
 sheet-refusal-spec =
@@ -89,10 +59,7 @@ sheet-refusal-spec =
     easy-weight-requires
     difficult-weight-requires
     header-refusal-requires
-    returns-2
-    mul-marks
-    add-if3
-    returns-3
-    marks-fault-requires
-    returns-4
-    returns-5)
+    mul-body-refusal
+    body-refusal-requires
+    or-else-requires
+    returns-2)

@@ -2,6 +2,7 @@
 use Prim.Native.Nat.{_<_}
 use native.Mathlib.Omega.{arith}
 use borrow.Author.Needs.{needs}
+use Rattle.model.specs.Limits.{maxAgents}
 use Rattle.steps.specs.Looks.{lowestOf, choreFor}
 use Rattle.steps.proofs.hand_over.Statement.{statement}
 use Rattle.steps.proofs.hand_over.Tie as tie
@@ -13,7 +14,7 @@ first-wanted-requires : tie.Need-first-wanted-requires
 unfolding lowestOf
 first-wanted-requires c κs = (c .before .before .before .before .before .pre .owned, omega (arith, c .before .lowest .ensures, c .before .before .before .before .before .pre .receiver, c .before .before .before .before .before .pre .agents))
 
-below : (c : tie.After-first-wanted) → c .before .before .lowest .result < 32
+below : (c : tie.After-first-wanted) → c .before .before .lowest .result < maxAgents
 unfolding lowestOf
 below c = omega (arith, c .before .before .lowest .ensures, c .before .before .before .before .before .before .pre .receiver, c .before .before .before .before .before .before .pre .agents)
 

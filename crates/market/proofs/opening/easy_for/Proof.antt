@@ -42,12 +42,12 @@ loop-again c =
     let s = c .before .before .before .loop .inv .1 in
     let l : c .before .before .before .loop .i < c .before .before .before .before .before .args .n = omega arith in
     let e = sym (c .before .marks-easy .ensures) in
-    let liberal = sym (c .before .before .before .before .before .pre .liberal .member (c .before .before .before .loop .i) l) in (
+    let row = sym (c .before .before .before .before .before .pre .allDifficultRows .member (c .before .before .before .loop .i) l) in (
       omega arith,
       ⊎-elim
           (λ w. rw (w .2, w .1 .ensures) (set-take s
-          (⊎-elim (λ v. or-left _ (e ∙ v .taken)) (λ v. or-right (marksEasy _ _ _) (liberal ∙ sym (v .1 .ensures) ∙ v .2 .taken)) (w .0 .came))))
-          (λ w. rw (w .3) (set-skip s (or-none-intro (e ∙ w .0 .left) (liberal ∙ sym (w .1 .ensures) ∙ w .2 .left))))
+          (⊎-elim (λ v. or-left _ (e ∙ v .taken)) (λ v. or-right (marksEasy _ _ _) (row ∙ sym (v .1 .ensures) ∙ v .2 .taken)) (w .0 .came))))
+          (λ w. rw (w .3) (set-skip s (or-none-intro (e ∙ w .0 .left) (row ∙ sym (w .1 .ensures) ∙ w .2 .left))))
           (c .if1 .came),
     )
 

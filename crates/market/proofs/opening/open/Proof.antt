@@ -5,8 +5,7 @@ use mathlib.Core.Path.{_≡_, _∙_}
 use mathlib.Core.Logic.{⊎-elim}
 use native.Mathlib.Omega.{arith}
 use Rattle.market.proofs.Opens.{Opens, opens-dear, opens-easy, opens-none, opens-next, opens-all}
-use native.Mathlib.Nat.{mul-le-mul}
-use Rattle.finite.specs.Bits.{bit}
+use native.Mathlib.Nat.{le-trans, mul-le-mul}
 use Rattle.finite.proofs.Search.{first-le}
 use Rattle.model.specs.Limits.{maxAgents}
 use Rattle.model.specs.Sheet.{choresOf}
@@ -27,8 +26,8 @@ easy-weight-requires c κs = search needs
 difficult-weight-requires : tie.Need-difficult-weight-requires Inv-loop μ-loop
 difficult-weight-requires c κs = search needs
 
-liberal-requires : tie.Need-liberal-requires Inv-loop μ-loop
-liberal-requires c κs = search needs
+all-difficult-rows-requires : tie.Need-all-difficult-rows-requires Inv-loop μ-loop
+all-difficult-rows-requires c κs = search needs
 
 everyone-requires : tie.Need-everyone-requires Inv-loop μ-loop
 everyone-requires c κs = search needs
@@ -68,8 +67,8 @@ lowest-requires c κs = search needs
 -- the lowest agent's number fits a byte
 lowest-fits : (c : tie.After-lowest Inv-loop μ-loop) → c .lowest .result ≤ maxAgents
 lowest-fits c =
-    let pre = c .before .before .before .before .before .before .before .before .before .before .before .before .before .pre .on in
-    omega (arith, c .lowest .ensures, first-le (c .before .before .before .before .before .before .before .before .before .before .before .before .before .args .n) (λ i. bit (c .before .before .easy-for .result) i), pre .valid .agentsFit, pre .agents)
+    let on = c .before .before .before .before .before .before .before .before .before .before .before .before .before .pre .on in
+    rw (c .lowest .ensures) (le-trans (first-le _ _) (omega (arith, on .valid .agentsFit, on .agents)))
 
 cast-owners : tie.Need-cast-owners Inv-loop μ-loop
 cast-owners c = let l = lowest-fits c in omega arith
@@ -142,7 +141,7 @@ open-spec =
     μ-loop
     easy-weight-requires
     difficult-weight-requires
-    liberal-requires
+    all-difficult-rows-requires
     everyone-requires
     loop-holds
     easy-for-requires

@@ -13,10 +13,10 @@ use Rattle.market.proofs.sums.of_sum.Statement.{statement}
 use Rattle.market.proofs.sums.of_sum.Tie as tie
 
 abbrev Inv-loop : tie.InvT-loop
-Inv-loop n sums least w₀ i₀ w i = (i ≤ n) × SetOf i w (λ j. eqb (getD sums j 0) least)
+Inv-loop n sums least start₀ i₀ start i = (i ≤ n) × SetOf i start (λ j. eqb (getD sums j 0) least)
 
 abbrev μ-loop : tie.MeasureT-loop
-μ-loop n sums least w₀ i₀ w i = n - i
+μ-loop n sums least start₀ i₀ start i = n - i
 
 loop-holds : tie.Need-loop-holds Inv-loop μ-loop
 loop-holds c = (omega arith, set-zero _)

@@ -1,13 +1,16 @@
--- `shares::page::sheet_text` meets its contract, by the two cases of the answer.
+-- `shares::page::sheet_text` meets its contract, by the cases of the answer.
 -- Assumes nothing.
 use native.Mathlib.Omega.{arith}
 use borrow.Author.Needs.{needs}
-use Rattle.shares.proofs.Reading.{header-there, in-owners, in-prices, lent-wide, shared-text, refused-text}
+use Rattle.shares.proofs.Reading.{header-there, in-owners, in-prices, lent-wide, absent-text, refused-text, shared-text}
 use Rattle.shares.proofs.page.sheet_text.Statement.{statement}
 use Rattle.shares.proofs.page.sheet_text.Tie as tie
 
 add-number : tie.Need-add-number
 add-number c = search needs
+
+enum-told : tie.Need-enum-told
+enum-told c = search needs
 
 enum-known-answer : tie.Need-enum-known-answer
 enum-known-answer c = search needs
@@ -57,23 +60,27 @@ cast-shared-lines c = search needs
 shared-lines-requires : tie.Need-shared-lines-requires
 shared-lines-requires c κs = lent-wide (c .before .before .before .before .before .before .before .before .before .before .before .before .pre .0) (c .before .before .before .before .before .before .answer2 .given .1) (c .before .before .before .before .sheet-at .ensures) (c .before .before .before .chores .ensures .is) (c .before .before .before .before .before .before .before .before .before .before .before .before .pre .1)
 
+returns : tie.Need-returns
+returns c = absent-text _ _ _ _ (c .enum-told .given .1)
+
 same-length : tie.Need-same-length
 same-length c = search needs
 
-returns : tie.Need-returns
-returns c = refused-text _ _ _ _ (c .before .before .before .before .before .answer .given .1) (c .before .before .refused-line .ensures)
+returns-2 : tie.Need-returns-2
+returns-2 c = refused-text _ _ _ _ (c .before .before .before .before .before .answer .given .1) (c .before .before .refused-line .ensures)
 
 same-length-2 : tie.Need-same-length-2
 same-length-2 c = search needs
 
-returns-2 : tie.Need-returns-2
-returns-2 c = shared-text (c .before .before .before .before .before .before .before .before .before .before .before .before .before .before .before .pre .0) (c .before .before .before .before .before .before .before .before .before .answer2 .given .1) (c .before .before .before .before .before .before .before .sheet-at .ensures) (c .before .before .before .before .before .before .chores .ensures .is) (c .before .before .shared-lines .ensures)
+returns-3 : tie.Need-returns-3
+returns-3 c = shared-text (c .before .before .before .before .before .before .before .before .before .before .before .before .before .before .before .pre .0) (c .before .before .before .before .before .before .before .before .before .answer2 .given .1) (c .before .before .before .before .before .before .before .sheet-at .ensures) (c .before .before .before .before .before .before .chores .ensures .is) (c .before .before .shared-lines .ensures)
 
 pub sheet-text-spec : {M : Type 1} → statement M
 sheet-text-spec =
     tie.close
     (tie.spec
     add-number
+    enum-told
     enum-known-answer
     cast-refused-line
     refused-line-requires
@@ -90,7 +97,8 @@ sheet-text-spec =
     part-of-prices-end
     cast-shared-lines
     shared-lines-requires
-    same-length
     returns
+    same-length
+    returns-2
     same-length-2
-    returns-2)
+    returns-3)

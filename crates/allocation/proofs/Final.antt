@@ -1,0 +1,71 @@
+-- Laws of the state in which the share-out of a sheet ends.
+-- Assumes nothing.
+use Prim.Native.Nat.{ℕ, _^_, _<_}
+use mathlib.Core.Bool.{Bool, true, false}
+use mathlib.Core.List.{List}
+use mathlib.Core.Path.{_≡_, refl}
+use native.Mathlib.Omega.{arith}
+use lib.Dec.{eqb}
+use lib.ListN.{length}
+use borrow.Author.Tests.{eqb-true, eqb-false, eq-eqb, ne-eqb}
+use Rattle.model.specs.Sheet.{choresOf, asRead}
+use Rattle.model.specs.Algorithm.{State, Ends}
+use Rattle.model.specs.Refusals.{sheetRefusal}
+use Rattle.model.specs.Promises.{Demand3}
+use Rattle.model.proofs.Unique.{unique}
+use Rattle.sheet.proofs.Refusal.{valid}
+use Rattle.algorithm.specs.Theorem.{Theorem}
+use Rattle.algorithm.proofs.Theorem.{theorem}
+use Rattle.allocation.specs.Final.{accepts, finalBy, finalOf}
+use Rattle.allocation.proofs.Running.{move-top-small, ended-shaped}
+
+module _ (s : List ℕ) where
+  pub accept : sheetRefusal s ≡ 0 → accepts s ≡ true
+  unfolding accepts
+  accept z = eq-eqb (sheetRefusal s) 0 z
+
+  pub turn-down : (sheetRefusal s ≡ 0 → ⊥) → accepts s ≡ false
+  unfolding accepts
+  turn-down h = ne-eqb (sheetRefusal s) 0 h
+
+  pub accepted : accepts s ≡ true → sheetRefusal s ≡ 0
+  unfolding accepts
+  accepted e = eqb-true (sheetRefusal s) 0 e
+
+  module _ (z : sheetRefusal s ≡ 0) where
+    by-case : (P : State → Type 0) → ((T : Theorem s) → P (T .final)) → (t : Bool) (e : eqb (sheetRefusal s) 0 ≡ t) → P (finalBy s t e)
+    unfolding finalBy
+    by-case P h true e = h (theorem s (eqb-true (sheetRefusal s) 0 e))
+    by-case P h false e = absurd (eqb-false (sheetRefusal s) 0 e z)
+
+    -- what the theorem says of its final state holds of this one
+    final-theorem : (P : State → Type 0) → ((T : Theorem s) → P (T .final)) → P (finalOf s)
+    unfolding finalOf
+    final-theorem P h = by-case P h (eqb (sheetRefusal s) 0) refl
+
+    pub final-demand3 : Demand3 s (finalOf s)
+    final-demand3 = final-theorem (Demand3 s) (λ T. T .demand3)
+
+    -- whatever run ends, it ends there
+    pub final-unique : (x : State) → Ends (asRead s) x → x ≡ finalOf s
+    final-unique x E =
+        let F = final-demand3 .ends in
+        unique (asRead s) (E .steps) (F .steps) x (finalOf s) (E .ends) (F .ends)
+
+    pub owners-long : length (finalOf s .owners) ≡ choresOf s
+    unfolding asRead
+    owners-long = ended-shaped (valid s z) (final-demand3 .ends) .owners
+
+    pub prices-long : length (finalOf s .prices) ≡ choresOf s
+    unfolding asRead
+    prices-long = ended-shaped (valid s z) (final-demand3 .ends) .prices
+
+    pub few-moves : finalOf s .moves < 2 ^ 60
+    unfolding asRead
+    few-moves =
+        let v = valid s z in
+        final-theorem (λ x. x .moves < 2 ^ 60)
+        (λ T. omega (arith, T .moves, move-top-small (asRead s) (v .agentsFit) (omega (arith, v .choresFit)) (v .weightFits)))
+
+    pub few-cuts : finalOf s .cuts < 32
+    few-cuts = omega (arith, final-demand3 .cuts, valid s z .agentsFit)

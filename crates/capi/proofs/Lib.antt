@@ -1,5 +1,0 @@
-pub mod PriceChecks
-pub mod Lending
-pub mod Finding
-pub mod Filling
-pub mod Books

@@ -1,0 +1,79 @@
+-- The price check on bytes, told from the price check on numbers.
+-- Assumes nothing.
+use Prim.Native.Nat.{ℕ, _*_, _≤_}
+use mathlib.Core.List.{List}
+use mathlib.Core.Path.{_≡_, refl, sym, ap, _∙_}
+use native.Mathlib.Omega.{arith}
+use lib.ListN.{length}
+use borrow.Author.Tests.{ne-eqb}
+use Rattle.finite.proofs.Below.{by-same}
+use Rattle.model.specs.Sheet.{agentsOf, choresOf}
+use Rattle.model.specs.Refusals.{_orElse_, sheetRefusal, ownersRefusal, pricesRefusal, priceRefusal}
+use Rattle.model.specs.Replies.{Reply, refused, holds, accepted}
+use Rattle.model.specs.Verdicts.{unlessRefused, listCheck, priceCheck}
+use Rattle.sheet.proofs.OrElse.{or-else-first, or-else-zero}
+use Rattle.welfare.proofs.AcceptedSheet.{accepted-holds}
+use Rattle.pricebytes.specs.PriceBytes.{pricesIn}
+use Rattle.cmodel.specs.Numbers.{verdictNumber}
+use Rattle.cmodel.specs.Promises.{priceRefusalInC, priceCheckInC, PricesCheckedInC}
+use Rattle.cmodel.proofs.PriceChecks.{whole}
+
+-- with a refusal the verdict does not count
+unless-refused : {k : ℕ} (v : Reply) → (k ≡ 0 → ⊥) → unlessRefused k v ≡ refused k
+unfolding unlessRefused
+unless-refused {k} v h = rw (ne-eqb k 0 h)
+
+-- a refusal is not `accepted`
+not-accepted : {k : ℕ} → refused k ≡ accepted → ⊥
+not-accepted e = let z : _≡_ {A = ℕ} 0 1 = cc in absurd (omega arith)
+
+ends-refused : (a b : ℕ) → a orElse b orElse 10 ≡ 0 → ⊥
+ends-refused a b e =
+    let last = or-else-zero b 10 (or-else-zero a (b orElse 10) e .1) .1 in
+    omega (arith, last)
+
+module _ (s owners bytes : List ℕ) where
+  -- other than 4 m bytes are always turned down
+  module _ (odd : length bytes ≡ 4 * choresOf s → ⊥) where
+    never-fine : priceRefusalInC s owners bytes ≡ 0 → ⊥
+    unfolding priceRefusalInC
+    never-fine e =
+        ends-refused (sheetRefusal s) (ownersRefusal (agentsOf s) (choresOf s) owners)
+        (rw (ne-eqb (length bytes) (4 * choresOf s) odd) at e)
+
+    odd-refused : priceCheckInC s owners bytes ≡ refused (priceRefusalInC s owners bytes)
+    unfolding priceCheckInC
+    odd-refused = unless-refused _ never-fine
+
+    -- as any list of other than m prices is
+    not-whole : (xs : List ℕ) → (length xs ≡ choresOf s → ⊥) → priceCheck s owners xs ≡ priceCheckInC s owners bytes
+    unfolding priceRefusalInC priceRefusal pricesRefusal priceCheck
+    not-whole xs wrong =
+        let same : priceRefusal s owners xs ≡ priceRefusalInC s owners bytes = rw (ne-eqb (length bytes) (4 * choresOf s) odd, ne-eqb (length xs) (choresOf s) wrong) in
+        rw same (unless-refused _ never-fine ∙ sym odd-refused)
+
+  -- an accepted list holds
+  holding : priceCheckInC s owners bytes ≡ accepted → (lent : ℕ) → choresOf s ≤ lent → listCheck s owners lent ≡ holds
+  holding e =
+      by-same (length bytes) (4 * choresOf s)
+      (λ sized. accepted-holds s owners (pricesIn bytes) (whole s owners bytes sized ∙ e))
+      (λ odd. absurd (not-accepted (sym (odd-refused odd) ∙ e)))
+
+  told : {r : ℕ} {reply : Reply} → r ≡ verdictNumber reply → reply ≡ priceCheckInC s owners bytes → PricesCheckedInC s owners bytes r
+  told is e = record { answer = is ∙ ap verdictNumber e; holding = holding }
+
+  -- a refused sheet decides by itself
+  pub refused-sheet : {r : ℕ} → r ≡ sheetRefusal s → (r ≡ 0 → ⊥) → PricesCheckedInC s owners bytes r
+  unfolding priceCheckInC priceRefusalInC
+  refused-sheet {r} e h =
+      let first : priceRefusalInC s owners bytes ≡ r = rw (← e) (or-else-first {a = r} _ h) in
+      let all : priceCheckInC s owners bytes ≡ refused r = rw first (unless-refused _ h) in
+      told {reply = refused r} refl (sym all)
+
+  -- the bytes of m prices are judged as those prices
+  pub judged : {r : ℕ} {xs : List ℕ} {reply : Reply} → length bytes ≡ 4 * choresOf s → xs ≡ pricesIn bytes → reply ≡ priceCheck s owners xs → r ≡ verdictNumber reply → PricesCheckedInC s owners bytes r
+  judged sized read e is =
+      told is (e ∙ ap (priceCheck s owners) read ∙ whole s owners bytes sized)
+
+  pub judged-odd : {r : ℕ} {reply : Reply} (xs : List ℕ) → (length bytes ≡ 4 * choresOf s → ⊥) → (length xs ≡ choresOf s → ⊥) → reply ≡ priceCheck s owners xs → r ≡ verdictNumber reply → PricesCheckedInC s owners bytes r
+  judged-odd xs odd wrong e is = told is (e ∙ not-whole odd xs wrong)

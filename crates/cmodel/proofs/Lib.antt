@@ -1,0 +1,2 @@
+pub mod PriceChecks
+pub mod Lent

@@ -1,0 +1,89 @@
+-- What each call promises to C. Plain names are what is handed in, primed ones the same memory when the call returns, r what is returned.
+use Prim.Native.Nat.{ℕ, _+_, _-_, _*_, _≤_}
+use mathlib.Core.Bool.{cond}
+use mathlib.Core.List.{List, [], _∷_, _++_}
+use mathlib.Core.Path.{_≡_}
+use lib.Dec.{eqb}
+use lib.ListN.{length, take, drop}
+use Rattle.finite.specs.Lists.{tabulate}
+use Rattle.model.specs.declared.ShareOut.{ShareOut}
+use Rattle.model.specs.declared.BookResult.{BookResult}
+use Rattle.model.specs.Instance.{ownerOf, priceOf}
+use Rattle.model.specs.Sheet.{agentsOf, choresOf, asMarked}
+use Rattle.model.specs.Contents.{sheetCount, sheetStart, sheetSize, sheetOf}
+use Rattle.model.specs.Refusals.{_orElse_, sheetRefusal, ownersRefusal, pricesRefusal, lookupRefusal}
+use Rattle.model.specs.Replies.{Reply, holds, wasteful, accepted}
+use Rattle.model.specs.Verdicts.{unlessRefused, priceVerdict, listCheck}
+use Rattle.model.specs.Book.{firstEntry}
+use Rattle.model.specs.Promises.{Dominating, Allocated, entryAt, BookAllocated}
+use Rattle.pricebytes.specs.PriceBytes.{pricesIn, withPrices}
+use Rattle.cmodel.specs.Numbers.{verdictNumber, refusalIn, movesIn, cutsIn, firstIn, Told}
+
+-- The list check.
+pub record ListCheckedInC (s owners lent lent′ : List ℕ) (r : ℕ) : Type 0 where
+  pub answer : r ≡ verdictNumber (listCheck s owners (length lent))
+  pub shown : listCheck s owners (length lent) ≡ wasteful → Dominating s owners lent lent′
+  pub kept : (listCheck s owners (length lent) ≡ wasteful → ⊥) → lent′ ≡ lent
+
+-- The price check, with the prices as bytes: 10 also for a list that is not of 4 m bytes.
+unfoldable pub priceRefusalInC : List ℕ → List ℕ → List ℕ → ℕ
+priceRefusalInC s owners bytes =
+    sheetRefusal s
+    orElse ownersRefusal (agentsOf s) (choresOf s) owners
+    orElse cond (eqb (length bytes) (4 * choresOf s)) (pricesRefusal (choresOf s) (pricesIn bytes)) 10
+
+unfoldable pub priceCheckInC : List ℕ → List ℕ → List ℕ → Reply
+priceCheckInC s owners bytes =
+    unlessRefused (priceRefusalInC s owners bytes) (priceVerdict (asMarked s) (ownerOf owners) (priceOf (pricesIn bytes)))
+
+pub record PricesCheckedInC (s owners prices : List ℕ) (r : ℕ) : Type 0 where
+  pub answer : r ≡ verdictNumber (priceCheckInC s owners prices)
+  -- "An accepted list also holds, whoever proposed the prices."
+  pub holding : priceCheckInC s owners prices ≡ accepted → (lent : ℕ) → choresOf s ≤ lent → listCheck s owners lent ≡ holds
+
+-- The share-out. The price list has a fourth as many entries as bytes.
+pub record AllocatedInC (s owners prices scratch owners′ prices′ scratch′ : List ℕ) (moves cuts moves′ cuts′ r : ℕ) : Type 0 where
+  -- the promise of the Rattle call, demand 3 in it, on the prices as numbers
+  pub answer : ShareOut
+  pub numbers : List ℕ
+  pub allocated : Allocated s owners (pricesIn prices) scratch owners′ numbers scratch′ answer
+  -- the refusal number is returned, and moves and cuts are written where it is 0
+  pub told : Told answer moves cuts moves′ cuts′ r
+  -- the bytes of the first m prices are written; the bytes from 4 m on are kept, and all of them with a refusal
+  pub bytes : prices′ ≡ cond (eqb r 0) (withPrices (choresOf s) numbers prices) prices
+  -- demand 3 in bytes: the price check accepts the first m entries of both lists
+  pub passes : r ≡ 0 → priceCheckInC s (take (choresOf s) owners′) (take (4 * choresOf s) prices′) ≡ accepted
+
+-- The lookup of a sheet by its number: where its part of the book starts, and its size.
+pub record FoundInC (book : List ℕ) (sheetNumber start size start′ size′ r : ℕ) : Type 0 where
+  pub answer : r ≡ lookupRefusal book sheetNumber
+  pub startAtExit : start′ ≡ cond (eqb r 0) (sheetStart book (sheetNumber - 1)) start
+  pub sizeAtExit : size′ ≡ cond (eqb r 0) (sheetSize book (sheetNumber - 1)) size
+  -- "its bytes are handed back as that stretch of the book"
+  pub inside : r ≡ 0 → start′ + size′ ≤ length book
+  pub found : r ≡ 0 → take size′ (drop start′ book) ≡ sheetOf book (sheetNumber - 1)
+
+-- A whole book with its prices as bytes. The price list has a fourth as many entries as bytes.
+pub record BookInBytes (book owners prices scratch owners′ prices′ scratch′ : List ℕ) (answer : BookResult) : Type 0 where
+  -- the promise of the Rattle call, demand 3 in it, on the prices as numbers
+  pub numbers : List ℕ
+  pub allocated : BookAllocated book owners (pricesIn prices) scratch owners′ numbers scratch′ answer
+  -- the bytes of the accepted sheets' prices are written; all bytes after them are kept, and all of them with a refusal
+  pub bytes : prices′ ≡ cond (eqb (answer .refusal) 0) (withPrices (firstEntry book (sheetCount book)) numbers prices) prices
+
+-- a list with its first n entries written over; the entries after them are kept
+unfoldable pub withResults : ℕ → (ℕ → ℕ) → List ℕ → List ℕ
+withResults n f before = tabulate n f ++ drop n before
+
+-- The whole book. Each list of results has an entry for each of 16 sheets. Those of the book's sheets are written; the entries beyond the
+-- book's count keep what they held, and with a refusal all of them do.
+pub record BookAllocatedInC (book owners prices scratch owners′ prices′ scratch′ refusals moves cuts firsts tally refusals′ moves′ cuts′ firsts′ tally′ : List ℕ) (r : ℕ) : Type 0 where
+  pub answer : BookResult
+  pub allocated : BookInBytes book owners prices scratch owners′ prices′ scratch′ answer
+  pub returned : r ≡ answer .refusal
+  -- of each sheet its refusal number, or 0 with its moves, cuts and first entry; zeros stand beside a refusal number
+  pub refusalsAtExit : refusals′ ≡ cond (eqb r 0) (withResults (sheetCount book) (λ j. refusalIn (entryAt answer j)) refusals) refusals
+  pub movesAtExit : moves′ ≡ cond (eqb r 0) (withResults (sheetCount book) (λ j. movesIn (entryAt answer j)) moves) moves
+  pub cutsAtExit : cuts′ ≡ cond (eqb r 0) (withResults (sheetCount book) (λ j. cutsIn (entryAt answer j)) cuts) cuts
+  pub firstsAtExit : firsts′ ≡ cond (eqb r 0) (withResults (sheetCount book) (λ j. firstIn (entryAt answer j)) firsts) firsts
+  pub tallyAtExit : tally′ ≡ cond (eqb r 0) (answer .tally .moves ∷ answer .tally .cuts ∷ []) tally

@@ -1,0 +1,1 @@
+// What the calls promise to C: definitions and laws, no code.

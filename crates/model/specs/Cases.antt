@@ -1,0 +1,75 @@
+-- The forms of the worked cases, and what it is for the definitions to meet one.
+use Prim.Native.Nat.{ℕ, _/_, _%_}
+use Prim.Native.Char.{code}
+use Prim.Native.String as S
+use Prim.Native.String.{String}
+use mathlib.Core.Bool.{true}
+use mathlib.Core.List.{List, [], _∷_, _++_}
+use mathlib.Core.Path.{_≡_}
+use lib.ListN.{length}
+use Rattle.model.specs.Instance.{ownerOf}
+use Rattle.model.specs.Sheet.{asMarked, asRead}
+use Rattle.model.specs.Fairness.{dominates, isAllocation}
+use Rattle.model.specs.Algorithm.{State, Ends}
+use Rattle.model.specs.Refusals.{sheetRefusal, allocateRefusal}
+use Rattle.model.specs.Replies.{Reply}
+use Rattle.model.specs.Verdicts.{listCheck, priceCheck}
+
+unfoldable pub marks : String → List ℕ
+marks S.[] = []
+marks (S._∷_ c t) = code c ∷ marks t
+
+unfoldable pub allMarks : List String → List ℕ
+allMarks [] = []
+allMarks (row ∷ rows) = marks row ++ allMarks rows
+
+unfoldable pub firstRow : List String → List ℕ
+firstRow [] = []
+firstRow (row ∷ rows) = marks row
+
+-- the bytes of a sheet: its weights, and a row of marks for each agent
+unfoldable pub sheet : ℕ → ℕ → List String → List ℕ
+sheet a b rows =
+    length rows ∷ length (firstRow rows) ∷ a / 256 ∷ a % 256 ∷ b / 256 ∷ b % 256 ∷ allMarks rows
+
+pub data Case : Type 0 where
+  -- the share-out of a sheet: its owners, prices, moves and cuts
+  shared-out : List ℕ → List ℕ → List ℕ → ℕ → ℕ → Case
+  -- a sheet's refusal number, 0 where it is taken
+  judged : List ℕ → ℕ → Case
+  -- the refusal number of a sheet's share-out, with lent owners, prices and scratch of so many entries
+  lent : List ℕ → ℕ → ℕ → ℕ → ℕ → Case
+  -- the list check's answer on a sheet and a list, with enough lent
+  listed : List ℕ → List ℕ → Reply → Case
+  -- on a sheet, a list, and the one list that dominates it
+  shown : List ℕ → List ℕ → List ℕ → Case
+  -- the price check's answer on a sheet, a list and prices
+  priced : List ℕ → List ℕ → List ℕ → Reply → Case
+
+-- The sheet is taken, and Algorithm 1 ends on it with these owners, prices, moves and cuts.
+pub record Shares (s owners prices : List ℕ) (moves cuts : ℕ) : Type 0 where
+  pub taken : sheetRefusal s ≡ 0
+  pub final : State
+  pub ends : Ends (asRead s) final
+  pub owners-are : final .owners ≡ owners
+  pub prices-are : final .prices ≡ prices
+  pub moves-are : final .moves ≡ moves
+  pub cuts-are : final .cuts ≡ cuts
+
+-- `other` dominates the owners, and no list but this one does: it is what every right check shows.
+pub record Shows (s owners other : List ℕ) : Type 0 where
+  pub allocation : isAllocation (asMarked s) other ≡ true
+  pub dominating : dominates (asMarked s) (ownerOf other) (ownerOf owners) ≡ true
+  pub only : (y : List ℕ) → isAllocation (asMarked s) y ≡ true → dominates (asMarked s) (ownerOf y) (ownerOf owners) ≡ true → y ≡ other
+
+unfoldable pub Meets : Case → Type 0
+Meets (shared-out s owners prices moves cuts) = Shares s owners prices moves cuts
+Meets (judged s k) = sheetRefusal s ≡ k
+Meets (lent s owners prices scratch k) = allocateRefusal s owners prices scratch ≡ k
+Meets (listed s owners answer) = listCheck s owners (length owners) ≡ answer
+Meets (shown s owners other) = Shows s owners other
+Meets (priced s owners prices answer) = priceCheck s owners prices ≡ answer
+
+unfoldable pub MeetsAll : List Case → Type 0
+MeetsAll [] = Unit {0}
+MeetsAll (c ∷ cs) = Meets c × MeetsAll cs
