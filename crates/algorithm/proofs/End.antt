@@ -1,17 +1,14 @@
 -- The end of a run: the core invariant, and no price-one above any sum, pass the price check.
 -- Assumes nothing.
 use Prim.Native.Nat.{ℕ, _*_, _≤_, _<_}
-use mathlib.Core.Bool.{Bool, true, _&&_}
+use mathlib.Core.Bool.{Bool, true}
 use mathlib.Core.List.{List}
 use mathlib.Core.Path.{_≡_, _∙_}
 use native.Mathlib.Nat.{mul-le-mul}
 use native.Mathlib.Omega.{arith}
-use lib.Dec.{leb, ltb}
-use lib.ListN.{length, getD}
-use borrow.Author.Tests.{lt-ltb, le-leb, eq-eqb}
+use lib.ListN.{length}
+use borrow.Author.Tests.{eq-eqb}
 use Rattle.finite.specs.Lists.{Picks}
-use Rattle.finite.proofs.Tests.{and-intro}
-use Rattle.finite.proofs.Search.{all-intro}
 use Rattle.model.specs.Instance.{ownerOf, priceOf}
 use Rattle.model.specs.Limits.{maxWeight, maxPrice}
 use Rattle.model.specs.Sheet.{choresOf, difficultWeight, asMarked, asRead}
@@ -20,6 +17,7 @@ use Rattle.model.specs.Prices.{best, priceSum, priceUpToOne}
 use Rattle.model.specs.Refusals.{_orElse_, sheetRefusal, ownersRefusal, pricesInRange, pricesRefusal}
 use Rattle.model.specs.Replies.{accepted}
 use Rattle.model.specs.Verdicts.{priceCheck}
+use Rattle.model.proofs.Allocations.{picks-range}
 use Rattle.sheet.proofs.Refusal.{valid}
 use Rattle.welfare.proofs.AcceptedSheet.{accepted-check}
 use Rattle.welfare.proofs.Reading.{best-same}
@@ -28,22 +26,21 @@ use Rattle.algorithm.proofs.Best.{owner-best, price-positive, price-bou
 use Rattle.algorithm.proofs.Reading.{sheet-sound}
 
 owners-pass : {n m : ℕ} {owners : List ℕ} → Picks n m owners → ownersRefusal n m owners ≡ 0
-unfolding ownersRefusal ownersInRange _orElse_
-owners-pass {n} {m} {owners} o =
-    rw (eq-eqb (length owners) m (o .size), all-intro m (λ c. ltb 0 (getD owners c 0) && leb (getD owners c 0) n) λ c h. and-intro (lt-ltb 0 (getD owners c 0) (o .positive c h)) (le-leb (getD owners c 0) n (o .bounded c h)))
+unfolding ownersRefusal _orElse_
+owners-pass {n} {m} {owners} o = rw (eq-eqb (length owners) m (o .size), picks-range o)
 
-prices-pass : (m : ℕ) (prices : List ℕ) → length prices ≡ m → ((c : ℕ) → c < m → (0 < priceOf prices c) × (priceOf prices c ≤ maxPrice)) → pricesRefusal m prices ≡ 0
-unfolding pricesRefusal pricesInRange priceOf
-prices-pass m prices size range =
-    rw (eq-eqb (length prices) m size, all-intro m (λ c. ltb 0 (getD prices c 0) && leb (getD prices c 0) maxPrice) λ c h. and-intro (lt-ltb 0 (getD prices c 0) (range c h .0)) (le-leb (getD prices c 0) maxPrice (range c h .1)))
+prices-pass : {m : ℕ} {prices : List ℕ} → Picks maxPrice m prices → pricesRefusal m prices ≡ 0
+unfolding pricesRefusal pricesInRange ownersInRange
+prices-pass {m} {prices} p = rw (eq-eqb (length prices) m (p .size), picks-range p)
 
 module _ (s owners prices : List ℕ) {group : ℕ → ℕ} {cut : ℕ → Bool} (passed : sheetRefusal s ≡ 0) (K : Core (asRead s) (ownerOf owners) (priceOf prices) group cut) where
-  prices-range : (c : ℕ) → c < choresOf s → (0 < priceOf prices c) × (priceOf prices c ≤ maxPrice)
-  unfolding asRead
-  prices-range c h =
+  prices-picks : length prices ≡ choresOf s → Picks maxPrice (choresOf s) prices
+  unfolding asRead priceOf
+  prices-picks size =
       let S = sheet-sound s passed in
-      let square : difficultWeight s * difficultWeight s ≤ maxWeight * maxWeight = mul-le-mul (valid s passed .weightFits) (valid s passed .weightFits) in
-      (price-positive S K c h, omega (arith, price-bound S K c h))
+      let fits = valid s passed .weightFits in
+      let square : difficultWeight s * difficultWeight s ≤ maxWeight * maxWeight = mul-le-mul fits fits in
+      record { size = size; positive = price-positive S K; bounded = λ c h. omega (arith, price-bound S K c h) }
 
   -- the core invariant is over the row reading, the check over the marks
   best-marked : (c : ℕ) → c < choresOf s → best (asMarked s) (priceOf prices) (ownerOf owners c) c ≡ true
@@ -58,6 +55,6 @@ module _ (s owners prices : List ℕ) {group : ℕ → ℕ} {cut : ℕ → Bool}
       (record {
         sheet-ok = passed;
         owners-fit = owners-pass o;
-        prices-fit = prices-pass (choresOf s) prices size prices-range;
+        prices-fit = prices-pass (prices-picks size);
         priced = record { best-owned = best-marked; no-envy = λ i j hi hj h. even i j hi hj };
       })

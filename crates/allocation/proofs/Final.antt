@@ -8,11 +8,11 @@ use native.Mathlib.Omega.{arith}
 use lib.Dec.{eqb}
 use lib.ListN.{length}
 use borrow.Author.Tests.{eqb-true, eqb-false, eq-eqb, ne-eqb}
+use Rattle.model.specs.Limits.{maxAgents}
 use Rattle.model.specs.Sheet.{choresOf, asRead}
-use Rattle.model.specs.Algorithm.{State, Ends}
+use Rattle.model.specs.Algorithm.{State}
 use Rattle.model.specs.Refusals.{sheetRefusal}
 use Rattle.model.specs.Promises.{Demand3}
-use Rattle.model.proofs.Unique.{unique}
 use Rattle.sheet.proofs.Refusal.{valid}
 use Rattle.algorithm.specs.Theorem.{Theorem}
 use Rattle.algorithm.proofs.Theorem.{theorem}
@@ -46,12 +46,6 @@ module _ (s : List ℕ) where
     pub final-demand3 : Demand3 s (finalOf s)
     final-demand3 = final-theorem (Demand3 s) (λ T. T .demand3)
 
-    -- whatever run ends, it ends there
-    pub final-unique : (x : State) → Ends (asRead s) x → x ≡ finalOf s
-    final-unique x E =
-        let F = final-demand3 .ends in
-        unique (asRead s) (E .steps) (F .steps) x (finalOf s) (E .ends) (F .ends)
-
     pub owners-long : length (finalOf s .owners) ≡ choresOf s
     unfolding asRead
     owners-long = ended-shaped (valid s z) (final-demand3 .ends) .owners
@@ -67,5 +61,5 @@ module _ (s : List ℕ) where
         final-theorem (λ x. x .moves < 2 ^ 60)
         (λ T. omega (arith, T .moves, move-top-small (asRead s) (v .agentsFit) (omega (arith, v .choresFit)) (v .weightFits)))
 
-    pub few-cuts : finalOf s .cuts < 32
+    pub few-cuts : finalOf s .cuts < maxAgents
     few-cuts = omega (arith, final-demand3 .cuts, valid s z .agentsFit)

@@ -23,9 +23,8 @@ use Rattle.model.specs.Replies.{refused, sharedAt, absent}
 use Rattle.model.specs.Book.{ownRefusal, takesSheet, entriesOf, firstEntry, sheetAnswer, stretches, longList}
 use Rattle.model.specs.Promises.{BookSharedOut, BookAllocated}
 use Rattle.sheet.specs.Valid.{Valid}
-use Rattle.sheet.proofs.Refusal.{valid}
+use Rattle.sheet.proofs.Refusal.{valid, lent-ok}
 use Rattle.sheet.proofs.OrElse.{or-else-next, or-else-first, or-else-none, or-else-zero}
-use Rattle.welfare.proofs.NotRefused.{lent-ok}
 use Rattle.algorithm.specs.Reached.{Shaped}
 use Rattle.contents.specs.Fits.{Fits}
 use Rattle.contents.proofs.Refusal.{fits}

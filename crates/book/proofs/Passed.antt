@@ -15,7 +15,7 @@ use Rattle.finite.proofs.Sums.{sum-zero, sum-next, sum-at-most}
 use Rattle.model.specs.declared.Tally.{Tally}
 use Rattle.model.specs.declared.ShareOut.{ShareOut}
 use Rattle.model.specs.declared.SheetEntry.{SheetEntry}
-use Rattle.model.specs.Limits.{maxChores, maxSheets, bookEntries}
+use Rattle.model.specs.Limits.{maxAgents, maxChores, maxSheets, bookEntries}
 use Rattle.model.specs.Contents.{sheetCount, sheetOf}
 use Rattle.model.specs.Algorithm.{State}
 use Rattle.model.specs.Refusals.{sheetRefusal}
@@ -98,11 +98,11 @@ module _ (book : List ℕ) where
         fitting =
             let p = answer-parts in
             let moved = counts-few (λ x. x .moves) (2 ^ 60) few-moves (omega arith) in
-            let cut = counts-few (λ x. x .cuts) 32 few-cuts (omega arith) in
+            let cut = counts-few (λ x. x .cuts) maxAgents few-cuts (omega arith) in
             let few : j < maxSheets = omega (arith, F .fits .sheetsFit) in
             record {
               moves = omega (arith, P .moves, p .movesAre, moved j, sum-at-most j (2 ^ 60) (λ i m. le-of-lt (moved i)));
-              cuts = omega (arith, P .cuts, p .cutsAre, cut j, sum-at-most j 32 (λ i m. le-of-lt (cut i)));
+              cuts = omega (arith, P .cuts, p .cutsAre, cut j, sum-at-most j maxAgents (λ i m. le-of-lt (cut i)));
             }
 
         module _ {n : ℕ} (T : Taken sheet out n) where

@@ -15,11 +15,10 @@ use Rattle.model.specs.Algorithm.{State}
 use Rattle.model.specs.Refusals.{sheetRefusal, allocateRefusal}
 use Rattle.model.specs.Replies.{refused, shared}
 use Rattle.model.specs.Promises.{Allocated}
-use Rattle.sheet.proofs.Refusal.{valid}
+use Rattle.sheet.proofs.Refusal.{valid, lent-ok}
 use Rattle.sheet.proofs.OrElse.{or-else-next, or-else-first, or-else-none}
-use Rattle.welfare.proofs.NotRefused.{lent-ok}
 use Rattle.allocation.specs.Final.{finalOf}
-use Rattle.allocation.proofs.Final.{final-unique, owners-long, prices-long}
+use Rattle.allocation.proofs.Final.{final-demand3, owners-long, prices-long}
 use Rattle.book.specs.Finals.{writtenOf}
 use Rattle.book.specs.Steps.{Room, RestShared}
 use Rattle.book.proofs.Finals.{answer-shared, written-shared, answer-refused, written-refused}
@@ -65,7 +64,7 @@ module _ {s owners prices scratch o p c : List ℕ} {first : ℕ} {out : ShareOu
         shared-out : sheetRefusal s ≡ 0 → RestShared s first owners prices scratch (handedBack owners first o) (handedBack prices first p) c out
         shared-out z =
             let S = A .notRefused (decides ∙ z) in
-            let same = final-unique s z (S .final) (S .demand3 .ends) in
+            let same = final-demand3 s z .only (S .final) (S .demand3 .ends) in
             record {
               answer = S .answer ∙ ap (λ (x : State). shared (x .moves) (x .cuts)) same ∙ sym (answer-shared s z);
               ownersAfter = back-shared s first (λ x. x .owners) owners o (R .ownersFit) z (S .final) same (owners-long s z) (S .ownersWritten) (S .ownersKept);

@@ -6,12 +6,11 @@ use mathlib.Core.Path.{_≡_, refl, sym, ap, _∙_}
 use native.Mathlib.Omega.{arith}
 use lib.ListN.{length, getD, take, set}
 use Rattle.finite.specs.Lists.{tabulate}
-use Rattle.finite.proofs.Lists.{tab-zero, tab-length, tab-at, tab-take}
+use Rattle.finite.proofs.Lists.{over-next, tab-zero, tab-length, tab-at, tab-take}
 use Rattle.model.specs.declared.BookResult.{BookResult}
 use Rattle.model.specs.declared.SheetEntry.{SheetEntry}
 use Rattle.model.specs.Replies.{Reply, replyAt}
 use Rattle.model.specs.Promises.{entryAt}
-use Rattle.pricebytes.proofs.Reading.{over-next}
 use Rattle.cmodel.specs.Numbers.{refusalIn, movesIn, cutsIn, firstIn}
 use Rattle.cmodel.specs.Promises.{withResults}
 use Rattle.cresults.specs.Parts.{SheetTold, SheetsTold, Places, ResultsTold}

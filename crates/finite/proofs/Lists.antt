@@ -1,4 +1,4 @@
--- Laws of lists made by index, of a list lent from its middle, of the search through all lists of a length, and of two-byte numbers.
+-- Laws of lists made by index, of a list lent from its middle, and of the search through all lists of a length.
 -- Assumes nothing.
 use Prim.Native.Nat.{ℕ, zero, suc, _+_, _-_, _≤_, _<_}
 use mathlib.Core.Bool.{Bool, true, false}
@@ -8,7 +8,7 @@ use native.Mathlib.Nat.{le-refl, le-of-eq}
 use native.Mathlib.Numerals.{add-one}
 use native.Mathlib.Omega.{arith}
 use lib.ListN.{length, getD, take, drop, set, replicate, length-append, length-drop, length-replicate, getD-replicate, take-append-drop, drop-of-length-le, List·getD-append}
-use lib.Seq.{ext-getD, sets, sets-eq, take-at, drop-drop, drop-append-add, take-suc, take-suc-set, take-all, getD-take, getD-at, length-take-le}
+use lib.Seq.{ext-getD, sets, sets-eq, take-at, drop-drop, drop-append-add, take-suc, drop-cons, set-at, append-snoc, take-suc-set, take-all, getD-take, getD-at, length-take-le}
 use Rattle.finite.specs.Lists.{tabulate, Picks, someList}
 use Rattle.finite.proofs.Tests.{clash, bool-eq, fails-of, not-yes}
 use Rattle.finite.proofs.Below.{none-below, by-top, lower}
@@ -73,6 +73,11 @@ fill-done {n} f xs e h = sym (take-all n xs (le-of-eq e)) ∙ h
 
 pub fill-at : {k : ℕ} (f : ℕ → ℕ) (xs : List ℕ) (i d : ℕ) → i < k → take k xs ≡ tabulate k f → getD xs i d ≡ f i
 fill-at {k} f xs i d l h = sym (getD-take k xs i d l) ∙ ap (λ ys. getD ys i d) h ∙ tab-at f i d l
+
+-- with the entries of another list
+pub over-next : {c v : ℕ} (xs ys : List ℕ) → c < length xs → c < length ys → v ≡ getD xs c 0 → set (take c xs ++ drop c ys) c v ≡ take (c + 1) xs ++ drop (c + 1) ys
+over-next {c} {v} xs ys l m e =
+    rw (drop-cons ys c 0 m, set-at (take c xs) (getD ys c 0) (drop (suc c) ys) v c (length-take-le c xs (omega arith)), add-one c, take-suc xs c 0 l, append-snoc, e)
 
 -- a list lent from its middle
 

@@ -20,6 +20,11 @@ entry-range n m owners e c l =
     let both = and-elim (ltb 0 (getD owners c 0)) (leb (getD owners c 0) n) (all-elim m (λ c. ltb 0 (getD owners c 0) && leb (getD owners c 0) n) e c l) in
     (ltb-true 0 (getD owners c 0) (both .0), leb-true (getD owners c 0) n (both .1))
 
+pub picks-range : {n m : ℕ} {y : List ℕ} → Picks n m y → ownersInRange n m y ≡ true
+unfolding ownersInRange
+picks-range {n} {m} {y} p =
+    all-intro m (λ c. ltb 0 (getD y c 0) && leb (getD y c 0) n) (λ c l. and-intro (lt-ltb 0 (getD y c 0) (p .positive c l)) (le-leb (getD y c 0) n (p .bounded c l)))
+
 module _ (I : Instance) (y : List ℕ) where
   pub allocation-picks : isAllocation I y ≡ true → Picks (I .n) (I .m) y
   unfolding isAllocation
@@ -32,7 +37,5 @@ module _ (I : Instance) (y : List ℕ) where
       }
 
   pub picks-allocation : Picks (I .n) (I .m) y → isAllocation I y ≡ true
-  unfolding isAllocation ownersInRange
-  picks-allocation p =
-      and-intro (eq-eqb (length y) (I .m) (p .size))
-      (all-intro (I .m) (λ c. ltb 0 (getD y c 0) && leb (getD y c 0) (I .n)) (λ c l. and-intro (lt-ltb 0 (getD y c 0) (p .positive c l)) (le-leb (getD y c 0) (I .n) (p .bounded c l))))
+  unfolding isAllocation
+  picks-allocation p = and-intro (eq-eqb (length y) (I .m) (p .size)) (picks-range p)

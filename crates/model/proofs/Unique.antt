@@ -1,4 +1,4 @@
--- Algorithm 1's result is unique: two numbers of steps that both end give the same state, and none lacks a chore beside them.
+-- Algorithm 1's result is unique: two numbers of steps that both end give the same state.
 -- Assumes nothing.
 use Prim.Native.Nat.{ℕ, zero, suc, _+_}
 use native.Mathlib.Nat.{add-comm, add-suc, add-zero}

@@ -1,12 +1,11 @@
 -- Laws of reading prices from bytes.
 -- Assumes nothing.
-use Prim.Native.Nat.{ℕ, suc, _+_, _*_, _/_, _≤_, _<_}
+use Prim.Native.Nat.{ℕ, _+_, _*_, _/_, _≤_}
 use mathlib.Core.List.{List, _++_}
 use mathlib.Core.Path.{_≡_, _∙_}
-use native.Mathlib.Numerals.{add-one}
 use native.Mathlib.Omega.{arith}
-use lib.ListN.{length, getD, take, drop, set}
-use lib.Seq.{take-suc, drop-cons, take-at, take-all, set-at, append-snoc, length-take-le}
+use lib.ListN.{length, getD, take}
+use lib.Seq.{take-at, take-all, length-take-le}
 use Rattle.finite.specs.Lists.{tabulate}
 use Rattle.finite.proofs.Lists.{tab-length, tab-at, tab-take}
 use Rattle.pricebytes.specs.PriceBytes.{priceAt, pricesIn}
@@ -33,8 +32,3 @@ module _ (bytes : List ℕ) where
   pub prices-all : (n : ℕ) (rest : List ℕ) → length bytes ≡ 4 * n → take n (take n (pricesIn bytes) ++ rest) ≡ pricesIn bytes
   prices-all n rest e =
       prices-read n rest (omega arith) ∙ take-all n (pricesIn bytes) (omega (arith, prices-count))
-
--- a list filled from the front with the entries of another
-pub over-next : {c v : ℕ} (xs ys : List ℕ) → c < length xs → c < length ys → v ≡ getD xs c 0 → set (take c xs ++ drop c ys) c v ≡ take (c + 1) xs ++ drop (c + 1) ys
-over-next {c} {v} xs ys l m e =
-    rw (drop-cons ys c 0 m, set-at (take c xs) (getD ys c 0) (drop (suc c) ys) v c (length-take-le c xs (omega arith)), add-one c, take-suc xs c 0 l, append-snoc, e)

@@ -97,3 +97,7 @@ accepted s v =
 pub lent-room : {needed lent : ℕ} → lentRefusal needed lent ≡ 0 → needed ≤ lent
 unfolding lentRefusal
 lent-room {needed} {lent} e = ltb-false lent needed (when-none _ 7 e)
+
+pub lent-ok : {needed lent : ℕ} → needed ≤ lent → lentRefusal needed lent ≡ 0
+unfolding lentRefusal
+lent-ok {needed} {lent} l = rw (le-ltb lent needed l)

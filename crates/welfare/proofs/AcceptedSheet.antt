@@ -21,8 +21,8 @@ use Rattle.welfare.proofs.PriceVerdict.{Priced, accepted-elim, accepted
 use Rattle.welfare.proofs.ListVerdict.{verdict-holds}
 use Rattle.welfare.proofs.Allocations.{allocation-below, undominated}
 use Rattle.sheet.proofs.OrElse.{or-else-zero, or-else-none}
-use Rattle.sheet.proofs.Refusal.{valid}
-use Rattle.welfare.proofs.NotRefused.{owners-ok, prices-ok, lent-ok}
+use Rattle.sheet.proofs.Refusal.{valid, lent-ok}
+use Rattle.welfare.proofs.NotRefused.{owners-ok, prices-ok}
 
 -- what an accepted list was given
 pub record AcceptedList (s owners prices : List ℕ) : Type 0 where

@@ -38,7 +38,7 @@ returns-2 c =
     let two = c .before .before in
     let read = two .before .before .before in
     let fine = read .before in
-    or-else-go (fine .before .sheet-refusal .ensures) (fine .if1 .left) (rw (c .or-else2 .ensures, c .before .lent-refusal3 .ensures, two .or-else .ensures, two .before .lent-refusal2 .ensures, two .before .before .lent-refusal .ensures, read .chores .ensures .is, or-else-assoc))
+    or-else-go (fine .before .sheet-refusal .ensures) (fine .if1 .left) (rw (c .or-else2 .ensures, c .before .lent-refusal3 .ensures, two .or-else .ensures, two .before .lent-refusal2 .ensures, two .before .before .lent-refusal .ensures, read .chores .ensures .is) (simp or-else-assoc))
 
 pub allocate-refusal-spec : {M : Type 1} → statement M
 allocate-refusal-spec =

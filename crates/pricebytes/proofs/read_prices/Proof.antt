@@ -6,7 +6,8 @@ use mathlib.Core.List.{_++_}
 use lib.ListN.{length, take, drop, set, length-set}
 use borrow.Author.Needs.{needs}
 use Rattle.pricebytes.specs.PriceBytes.{pricesIn}
-use Rattle.pricebytes.proofs.Reading.{prices-count, prices-at, over-next}
+use Rattle.finite.proofs.Lists.{over-next}
+use Rattle.pricebytes.proofs.Reading.{prices-count, prices-at}
 use Rattle.pricebytes.proofs.read_prices.Statement.{statement}
 use Rattle.pricebytes.proofs.read_prices.Tie as tie
 

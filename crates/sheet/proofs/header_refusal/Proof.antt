@@ -31,7 +31,7 @@ unfolding headerRefusal
 returns c =
     let two = c .before .before .before in
     let one = two .before .before in
-    rw (c .or-else2 .ensures, c .before .when3 .ensures, c .before .before .weights-fault .ensures, two .or-else .ensures, two .before .when2 .ensures, one .when .ensures, one .before .out-of-range .ensures, or-else-assoc)
+    rw (c .or-else2 .ensures, c .before .when3 .ensures, c .before .before .weights-fault .ensures, two .or-else .ensures, two .before .when2 .ensures, one .when .ensures, one .before .out-of-range .ensures) (simp or-else-assoc)
 
 pub header-refusal-spec : {M : Type 1} → statement M
 header-refusal-spec =

@@ -32,7 +32,7 @@ unfolding bookRefusal
 returns c =
     let three = c .before .before in
     let two = three .before .before in
-    rw (c .or-else3 .ensures, c .before .lent-refusal3 .ensures, three .or-else2 .ensures, three .before .lent-refusal2 .ensures, two .or-else .ensures, two .before .lent-refusal .ensures, two .before .before .contents-refusal .ensures, or-else-assoc, or-else-assoc)
+    rw (c .or-else3 .ensures, c .before .lent-refusal3 .ensures, three .or-else2 .ensures, three .before .lent-refusal2 .ensures, two .or-else .ensures, two .before .lent-refusal .ensures, two .before .before .contents-refusal .ensures) (simp or-else-assoc)
 
 pub book-refusal-spec : {M : Type 1} → statement M
 book-refusal-spec =
