@@ -7,31 +7,21 @@ use mathlib.Core.Path.{_≡_, _∙_}
 use native.Mathlib.Nat.{mul-le-mul}
 use native.Mathlib.Omega.{arith}
 use lib.ListN.{length}
-use borrow.Author.Tests.{eq-eqb}
 use Rattle.finite.specs.Lists.{Picks}
 use Rattle.model.specs.Instance.{ownerOf, priceOf}
 use Rattle.model.specs.Limits.{maxWeight, maxPrice}
 use Rattle.model.specs.Sheet.{choresOf, difficultWeight, asMarked, asRead}
-use Rattle.model.specs.Fairness.{ownersInRange}
 use Rattle.model.specs.Prices.{best, priceSum, priceUpToOne}
-use Rattle.model.specs.Refusals.{_orElse_, sheetRefusal, ownersRefusal, pricesInRange, pricesRefusal}
+use Rattle.model.specs.Refusals.{sheetRefusal}
 use Rattle.model.specs.Replies.{accepted}
 use Rattle.model.specs.Verdicts.{priceCheck}
-use Rattle.model.proofs.Allocations.{picks-range}
+use Rattle.sheet.proofs.Judged.{picks-owners, picks-prices}
 use Rattle.sheet.proofs.Refusal.{valid}
 use Rattle.welfare.proofs.AcceptedSheet.{accepted-check}
 use Rattle.welfare.proofs.Reading.{best-same}
 use Rattle.algorithm.specs.Core.{Core}
 use Rattle.algorithm.proofs.Best.{owner-best, price-positive, price-bound}
 use Rattle.algorithm.proofs.Reading.{sheet-sound}
-
-owners-pass : {n m : ℕ} {owners : List ℕ} → Picks n m owners → ownersRefusal n m owners ≡ 0
-unfolding ownersRefusal _orElse_
-owners-pass {n} {m} {owners} o = rw (eq-eqb (length owners) m (o .size), picks-range o)
-
-prices-pass : {m : ℕ} {prices : List ℕ} → Picks maxPrice m prices → pricesRefusal m prices ≡ 0
-unfolding pricesRefusal pricesInRange ownersInRange
-prices-pass {m} {prices} p = rw (eq-eqb (length prices) m (p .size), picks-range p)
 
 module _ (s owners prices : List ℕ) {group : ℕ → ℕ} {cut : ℕ → Bool} (passed : sheetRefusal s ≡ 0) (K : Core (asRead s) (ownerOf owners) (priceOf prices) group cut) where
   prices-picks : length prices ≡ choresOf s → Picks maxPrice (choresOf s) prices
@@ -54,7 +44,7 @@ module _ (s owners prices : List ℕ) {group : ℕ → ℕ} {cut : ℕ → Bool}
       accepted-check
       (record {
         sheet-ok = passed;
-        owners-fit = owners-pass o;
-        prices-fit = prices-pass (prices-picks size);
+        owners-fit = picks-owners o;
+        prices-fit = picks-prices (prices-picks size);
         priced = record { best-owned = best-marked; no-envy = λ i j hi hj h. even i j hi hj };
       })

@@ -1,13 +1,13 @@
 -- Laws of what both checks are given.
 -- Assumes nothing.
 use Prim.Native.Nat.{ℕ, _+_, _≤_, _<_}
-use mathlib.Core.Bool.{Bool, true, false, not, _&&_}
+use mathlib.Core.Bool.{Bool, true, false, _&&_}
 use mathlib.Core.List.{List}
 use mathlib.Core.Path.{_≡_, sym, _∙_}
 use native.Mathlib.Omega.{arith}
-use lib.Dec.{eqb, leb, ltb}
+use lib.Dec.{leb, ltb}
 use lib.ListN.{length, getD}
-use borrow.Author.Tests.{eqb-true, eq-eqb, ne-eqb, lt-ltb, le-ltb, le-leb, lt-leb, not-false}
+use borrow.Author.Tests.{eq-eqb, ne-eqb, lt-ltb, le-ltb, le-leb, lt-leb}
 use Rattle.finite.specs.Lists.{Picks}
 use Rattle.finite.proofs.Tests.{and-intro, and-no-left, and-no-right}
 use Rattle.finite.proofs.Search.{all-zero, all-next, all-fails-intro}
@@ -16,11 +16,11 @@ use Rattle.model.specs.Sheet.{agentsOf, choresOf, easyWeight, difficultWeight, 
 use Rattle.model.specs.Fairness.{ownersInRange}
 use Rattle.model.specs.Refusals.{_orElse_, sheetRefusal, ownersRefusal}
 use Rattle.sheet.specs.Readers.{InSheet}
-use Rattle.sheet.proofs.OrElse.{when-none, peel}
+use Rattle.sheet.proofs.OrElse.{or-else-zero}
+use Rattle.sheet.proofs.Judged.{owners-picks}
 use Rattle.sheet.proofs.Refusal.{valid}
-use Rattle.model.proofs.Allocations.{entry-range}
 use Rattle.welfare.proofs.Costs.{cost-easy, cost-difficult}
-use Rattle.given.specs.Given.{Given, Weighed, Owned, Costed, Cost}
+use Rattle.given.specs.Given.{givenRefusal, Given, Weighed, Owned, Costed, Cost}
 
 -- entries from 1 to a limit: what one more entry adds, and what one entry out of range spoils
 
@@ -47,7 +47,7 @@ module _ (n : ℕ) (owners : List ℕ) (c : ℕ) where
   range-above l h =
       all-fails-intro in-range c l (and-no-right (ltb 0 (getD owners c 0)) (lt-leb (getD owners c 0) n h))
 
--- the refusals of a list of owners, and what 0 means
+-- the refusals of a list of owners
 module _ (n m : ℕ) (owners : List ℕ) where
   pub refused-size : (length owners ≡ m → ⊥) → ownersRefusal n m owners ≡ 6
   unfolding ownersRefusal _orElse_
@@ -62,23 +62,18 @@ module _ (n m : ℕ) (owners : List ℕ) where
     unfolding ownersRefusal _orElse_
     owners-fine e = rw (eq-eqb (length owners) m size, e)
 
-  pub owners-judged : ownersRefusal n m owners ≡ 0 → (length owners ≡ m) × (ownersInRange n m owners ≡ true)
-  unfolding ownersRefusal
-  owners-judged e =
-      let size = peel (not (eqb (length owners) m)) 5 _ e in
-      (eqb-true (length owners) m (not-false _ (size .0)), not-false _ (when-none _ 6 (size .1)))
-
--- what both refusals being 0 gives
-pub given : (s owners : List ℕ) (n m : ℕ) → sheetRefusal s ≡ 0 → n ≡ agentsOf s → m ≡ choresOf s → ownersRefusal n m owners ≡ 0 → Given s owners n m
-given s owners n m fine agents chores judged =
-    let both = owners-judged n m owners judged in
+-- what refusal 0 gives
+pub given : {s owners : List ℕ} {n m : ℕ} → givenRefusal s owners ≡ 0 → n ≡ agentsOf s → m ≡ choresOf s → Given s owners n m
+given {s} {owners} {n} {m} fine agents chores =
+    let both = or-else-zero (sheetRefusal s) (ownersRefusal (agentsOf s) (choresOf s) owners) fine in
+    let fit : Picks n m owners = rw (agents, chores) (owners-picks (both .1)) in
     record {
-      valid = valid s fine;
+      valid = valid s (both .0);
       agents = agents;
       chores = chores;
-      size = both .0;
-      positive = λ c l. entry-range n m owners (both .1) c l .0;
-      bounded = λ c l. entry-range n m owners (both .1) c l .1;
+      size = fit .size;
+      positive = fit .positive;
+      bounded = fit .bounded;
     }
 
 module _ {s owners : List ℕ} {n m : ℕ} (g : Given s owners n m) where

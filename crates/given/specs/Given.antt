@@ -5,7 +5,12 @@ use mathlib.Core.Path.{_≡_}
 use lib.ListN.{length, getD}
 use Rattle.model.specs.Limits.{maxWeight}
 use Rattle.model.specs.Sheet.{agentsOf, choresOf, easyWeight, difficultWeight}
+use Rattle.model.specs.Refusals.{_orElse_, sheetRefusal, ownersRefusal}
 use Rattle.sheet.specs.Valid.{Valid}
+
+-- the refusals that both checks start with: the sheet's, then its list of owners'
+abbrev pub givenRefusal : List ℕ → List ℕ → ℕ
+givenRefusal s owners = sheetRefusal s orElse ownersRefusal (agentsOf s) (choresOf s) owners
 
 -- the accepted sheet s has n agents and m chores, and the list holds one owner per chore, from 1 to n
 pub record Given (s owners : List ℕ) (n m : ℕ) : Type 0 where

@@ -8,11 +8,11 @@ ghost use Rattle.model.specs.Instance.{cost, ownerOf};
 ghost use Rattle.model.specs.Sheet.{agentsOf, asMarked};
 ghost use Rattle.model.specs.Refusals.{ownersRefusal};
 ghost use Rattle.sheet.specs.Readers.{Read};
-ghost use Rattle.given.specs.Given.{Given, Owned, Costed, Cost};
+ghost use Rattle.given.specs.Given.{givenRefusal, Given, Owned, Costed, Cost};
 ghost use Rattle.given.specs.Burdens.{burdens};
 
 // The number that a list of owners is turned down with, 0 where it is not.
-pub fn owners_refusal(owners: &[u8], n: usize, m: usize) -> u8
+fn owners_refusal(owners: &[u8], n: usize, m: usize) -> u8
     ensures { λ r. ⌜ r ≡ ownersRefusal n m (now (owners .entry)) ⌝ }
 {
     if owners.len() != m {
@@ -27,6 +27,19 @@ pub fn owners_refusal(owners: &[u8], n: usize, m: usize) -> u8
         c += 1;
     }
     0
+}
+
+// The number that a sheet with a list of owners is turned down with, 0 where it is not. The list is read only where its sheet is whole.
+pub fn given_refusal(sheet: &[u8], owners: &[u8]) -> u8
+    ensures { λ r. ⌜ r ≡ givenRefusal (now (sheet .entry)) (now (owners .entry)) ⌝ }
+{
+    let of_sheet = sheet::sheet_refusal(sheet);
+    if of_sheet != 0 {
+        return of_sheet;
+    }
+    let n = sheet::agents(sheet);
+    let m = sheet::chores(sheet);
+    owners_refusal(owners, n, m)
 }
 
 // The agent that owns a chore. Agents are counted from 0 here, and from 1 in a list of owners.

@@ -11,37 +11,31 @@ use Rattle.finite.specs.Search.{firstBelow}
 use Rattle.model.specs.Instance.{ownerOf}
 use Rattle.model.specs.Sheet.{agentsOf, choresOf, asMarked}
 use Rattle.model.specs.Fairness.{ef1}
-use Rattle.model.specs.Refusals.{_orElse_, sheetRefusal, ownersRefusal, lentRefusal, listRefusal}
+use Rattle.model.specs.Refusals.{lentRefusal, listRefusal}
 use Rattle.model.specs.Replies.{refused, holds, unfair, wasteful, listReply}
 use Rattle.model.specs.Verdicts.{envies, firstOfPair, secondOfPair, unlessRefused, listVerdict, listCheck}
 use Rattle.model.specs.Promises.{Dominating, ListChecked}
 use Rattle.model.specs.declared.ListVerdict.{ListVerdict}
 use Rattle.model.proofs.Pairs.{FirstPair, pair-found, pair-none-elim}
-use Rattle.sheet.proofs.OrElse.{or-else-zero}
+use Rattle.sheet.proofs.OrElse.{or-else-zero, or-else-assoc}
 use Rattle.sheet.proofs.Refusal.{lent-room}
 use Rattle.welfare.proofs.Evenness.{ef1-intro}
 use Rattle.welfare.proofs.ListVerdict.{verdict-unfair}
-use Rattle.given.specs.Given.{Given}
+use Rattle.given.specs.Given.{givenRefusal, Given}
 use Rattle.given.proofs.Given.{given}
 
 -- a list check that is not turned down
 
 module _ (s owners : List ℕ) (lent : ℕ) (fine : listRefusal s owners lent ≡ 0) where
-  parts : (sheetRefusal s ≡ 0) × (ownersRefusal (agentsOf s) (choresOf s) owners ≡ 0) × (lentRefusal (choresOf s) lent ≡ 0)
+  parts : (givenRefusal s owners ≡ 0) × (lentRefusal (choresOf s) lent ≡ 0)
   unfolding listRefusal
-  parts =
-      let one = or-else-zero (sheetRefusal s) (ownersRefusal (agentsOf s) (choresOf s) owners orElse lentRefusal (choresOf s) lent) fine in
-      let two = or-else-zero (ownersRefusal (agentsOf s) (choresOf s) owners) (lentRefusal (choresOf s) lent) (one .1) in
-      (one .0, two .0, two .1)
+  parts = or-else-zero (givenRefusal s owners) (lentRefusal (choresOf s) lent) (or-else-assoc _ _ _ ∙ fine)
 
-  pub fine-sheet : sheetRefusal s ≡ 0
-  fine-sheet = parts .0
-
-  pub fine-given : (n m : ℕ) → n ≡ agentsOf s → m ≡ choresOf s → Given s owners n m
-  fine-given n m agents chores = given s owners n m (parts .0) agents chores (rw (agents, chores) (parts .1))
+  pub fine-given : {n m : ℕ} → n ≡ agentsOf s → m ≡ choresOf s → Given s owners n m
+  fine-given = given (parts .0)
 
   pub fine-room : {m : ℕ} → m ≡ choresOf s → m ≤ lent
-  fine-room chores = rw chores (lent-room (parts .2))
+  fine-room chores = rw chores (lent-room (parts .1))
 
 -- the answer in each case
 

@@ -8,14 +8,12 @@ ghost use Rattle.model.specs.Promises.{ListChecked};
 fn list_refusal(sheet: &[u8], owners: &[u8], lent: usize) -> u8
     ensures { λ r. ⌜ r ≡ listRefusal (now (sheet .entry)) (now (owners .entry)) lent ⌝ }
 {
-    let of_sheet = sheet::sheet_refusal(sheet);
-    if of_sheet != 0 {
-        return of_sheet;
+    let refusal = given::given_refusal(sheet, owners);
+    if refusal != 0 {
+        return refusal;
     }
-    let n = sheet::agents(sheet);
     let m = sheet::chores(sheet);
-    let refusal = given::owners_refusal(owners, n, m);
-    sheet::or_else(refusal, sheet::lent_refusal(m, lent))
+    sheet::lent_refusal(m, lent)
 }
 
 // Unfair agents come first: waste is looked for in an even list only. The lent list is written with `Wasteful` alone.

@@ -20,6 +20,10 @@ entry-range n m owners e c l =
     let both = and-elim (ltb 0 (getD owners c 0)) (leb (getD owners c 0) n) (all-elim m (λ c. ltb 0 (getD owners c 0) && leb (getD owners c 0) n) e c l) in
     (ltb-true 0 (getD owners c 0) (both .0), leb-true (getD owners c 0) n (both .1))
 
+pub range-picks : {n m : ℕ} {y : List ℕ} → length y ≡ m → ownersInRange n m y ≡ true → Picks n m y
+range-picks {n} {m} {y} size e =
+    record { size = size; positive = λ c l. entry-range n m y e c l .0; bounded = λ c l. entry-range n m y e c l .1 }
+
 pub picks-range : {n m : ℕ} {y : List ℕ} → Picks n m y → ownersInRange n m y ≡ true
 unfolding ownersInRange
 picks-range {n} {m} {y} p =
@@ -30,11 +34,7 @@ module _ (I : Instance) (y : List ℕ) where
   unfolding isAllocation
   allocation-picks e =
       let both = and-elim (eqb (length y) (I .m)) (ownersInRange (I .n) (I .m) y) e in
-      record {
-        size = eqb-true (length y) (I .m) (both .0);
-        positive = λ c l. entry-range (I .n) (I .m) y (both .1) c l .0;
-        bounded = λ c l. entry-range (I .n) (I .m) y (both .1) c l .1;
-      }
+      range-picks (eqb-true (length y) (I .m) (both .0)) (both .1)
 
   pub picks-allocation : Picks (I .n) (I .m) y → isAllocation I y ≡ true
   unfolding isAllocation

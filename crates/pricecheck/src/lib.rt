@@ -38,14 +38,12 @@ fn prices_refusal(prices: &[u32], m: usize) -> u8
 fn price_refusal(sheet: &[u8], owners: &[u8], prices: &[u32]) -> u8
     ensures { λ r. ⌜ r ≡ priceRefusal (now (sheet .entry)) (now (owners .entry)) (now (prices .entry)) ⌝ }
 {
-    let of_sheet = sheet::sheet_refusal(sheet);
-    if of_sheet != 0 {
-        return of_sheet;
+    let refusal = given::given_refusal(sheet, owners);
+    if refusal != 0 {
+        return refusal;
     }
-    let n = sheet::agents(sheet);
     let m = sheet::chores(sheet);
-    let refusal = given::owners_refusal(owners, n, m);
-    sheet::or_else(refusal, prices_refusal(prices, m))
+    prices_refusal(prices, m)
 }
 
 // Two numbers of 32 bits never have a product that 64 bits do not hold.

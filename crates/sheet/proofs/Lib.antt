@@ -1,3 +1,4 @@
 pub mod OrElse
 pub mod Marks
 pub mod Refusal
+pub mod Judged

@@ -19,10 +19,10 @@ use Rattle.welfare.proofs.Costs.{Weighted}
 use Rattle.welfare.proofs.Accepted.{Bought, bought-efficient, bought-even}
 use Rattle.welfare.proofs.PriceVerdict.{Priced, accepted-elim, accepted-intro}
 use Rattle.welfare.proofs.ListVerdict.{verdict-holds}
-use Rattle.welfare.proofs.Allocations.{allocation-below, undominated}
+use Rattle.welfare.proofs.Allocations.{picks-below, allocation-below, undominated}
 use Rattle.sheet.proofs.OrElse.{or-else-zero, or-else-none}
+use Rattle.sheet.proofs.Judged.{owners-picks, prices-picks}
 use Rattle.sheet.proofs.Refusal.{valid, lent-ok}
-use Rattle.welfare.proofs.NotRefused.{owners-ok, prices-ok}
 
 -- what an accepted list was given
 pub record AcceptedList (s owners prices : List ℕ) : Type 0 where
@@ -66,11 +66,11 @@ module _ (s owners prices : List ℕ) (a : AcceptedList s owners prices) where
       record { easy-positive = v .easyPositive; easy-least = le-of-lt (v .easier) }
 
   bought : Bought (asMarked s) (ownerOf owners) (priceOf prices)
-  unfolding asMarked
+  unfolding asMarked priceOf
   bought =
       record {
-        owner = owners-ok (agentsOf s) (choresOf s) owners (a .owners-fit);
-        priced = prices-ok (choresOf s) prices (a .prices-fit);
+        owner = picks-below (owners-picks (a .owners-fit));
+        priced = prices-picks (a .prices-fit) .positive;
         best-owned = a .priced .best-owned;
       }
 

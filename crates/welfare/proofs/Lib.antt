@@ -5,7 +5,6 @@ pub mod Evenness
 pub mod Accepted
 pub mod PriceVerdict
 pub mod ListVerdict
-pub mod NotRefused
 pub mod AcceptedSheet
 pub mod Connected
 pub mod Wasteless

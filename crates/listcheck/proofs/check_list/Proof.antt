@@ -1,4 +1,4 @@
-use mathlib.Core.Path.{_≡_, sym, _∙_}
+use mathlib.Core.Path.{_≡_, refl, sym, _∙_}
 use native.Mathlib.Omega.{arith}
 use lib.ListN.{length}
 use borrow.Author.Needs.{needs}
@@ -7,10 +7,9 @@ use Rattle.model.specs.Instance.{ownerOf}
 use Rattle.model.specs.Sheet.{asMarked}
 use Rattle.model.specs.Verdicts.{envies}
 use Rattle.model.proofs.Pairs.{FirstPair}
-use Rattle.sheet.proofs.Refusal.{valid}
 use Rattle.welfare.proofs.ListVerdict.{verdict-wasteful, verdict-holds}
 use Rattle.given.specs.Given.{Given}
-use Rattle.listcheck.proofs.Answers.{fine-sheet, fine-given, fine-room, check-refused, check-judged, checked, checked-wasteful, refused-other, unfair-other, holds-other, envious-pair, even, unfair-verdict}
+use Rattle.listcheck.proofs.Answers.{fine-given, fine-room, check-refused, check-judged, checked, checked-wasteful, refused-other, unfair-other, holds-other, envious-pair, even, unfair-verdict}
 use Rattle.listcheck.proofs.check_list.Statement.{statement}
 use Rattle.listcheck.proofs.check_list.Tie as tie
 
@@ -20,7 +19,7 @@ fine c = sym (c .before .list-refusal .ensures) ∙ c .if1 .left
 
 known : (c : tie.After-chores) → Given (c .before .before .before .before .before .before .before .args .sheet .now) (c .before .before .before .before .before .before .before .args .owners .now) (c .before .agents .result) (c .chores .result)
 known c =
-    fine-given _ _ _ (fine (c .before .before)) _ _ (c .before .agents .ensures .is) (c .chores .ensures .is)
+    fine-given _ _ _ (fine (c .before .before)) (c .before .agents .ensures .is) (c .chores .ensures .is)
 
 pair : (c : tie.After-first-envied) → FirstPair (c .before .before .before .before .agents .result) (envies (asMarked (c .before .before .before .before .before .before .before .before .before .before .args .sheet .now)) (ownerOf (c .before .before .before .before .before .before .before .before .before .before .args .owners .now))) (c .before .before .first-envier .result) (c .first-envied .result)
 pair c =
@@ -33,10 +32,10 @@ returns : tie.Need-returns
 returns c = checked (check-refused _ _ _ (c .before .list-refusal .ensures) (c .if1 .taken)) (refused-other _)
 
 agents-requires : tie.Need-agents-requires
-agents-requires c κs = valid _ (fine-sheet _ _ _ (fine c)) .header
+agents-requires c κs = fine-given _ _ _ (fine c) refl refl .valid .header
 
 chores-requires : tie.Need-chores-requires
-chores-requires c κs = valid _ (fine-sheet _ _ _ (fine (c .before))) .header
+chores-requires c κs = fine-given _ _ _ (fine (c .before)) refl refl .valid .header
 
 first-envier-requires : tie.Need-first-envier-requires
 first-envier-requires c κs = known c
