@@ -339,9 +339,9 @@ static void test_sheets_of_a_book(void)
         expect("allocate_book, sheet 1", fault->what, lent.refusals[0], fault->number);
         expect("allocate_book, sheet 2", fault->what, lent.refusals[1], SHARES_OK);
         expect("allocate_book, entries after the last sheet", fault->what, keeps_results_from(2), 1);
-        expect("allocate_book, moves", fault->what, lent.moves[0] == 0 && lent.moves[1] == 3, 1);
-        expect("allocate_book, cuts", fault->what, lent.cuts[0] == 0 && lent.cuts[1] == 1, 1);
-        expect("allocate_book, first", fault->what, lent.firsts[1], 0);
+        expect("allocate_book, moves", fault->what, lent.moves[0] == before.moves[0] && lent.moves[1] == 3, 1);
+        expect("allocate_book, cuts", fault->what, lent.cuts[0] == before.cuts[0] && lent.cuts[1] == 1, 1);
+        expect("allocate_book, first", fault->what, lent.firsts[0] == before.firsts[0] && lent.firsts[1] == 0, 1);
         expect("allocate_book, tally", fault->what, lent.tally[0] == 3 && lent.tally[1] == 1, 1);
         expect("allocate_book, owners", fault->what,
                memcmp(lent.owners, owners, CHORES) == 0 &&

@@ -117,11 +117,11 @@ uint8_t shares_find_sheet(const uint8_t *book, size_t book_len,
  * least 1,024 bytes.
  * Returns 0: entry i of each list of results tells of sheet i + 1. refusals has 0
  * or the sheet's number 1 to 5. Beside 0 are the sheet's moves, its cuts and its
- * first entry in the long lists, counted from 0; beside other numbers are zeros.
- * The entries after those of the book's sheets, book[0] of them, keep what they
- * held. tally has the moves and the cuts of all accepted sheets. The long lists
- * are kept outside the stretches of accepted sheets, and the whole scratch is
- * zeros.
+ * first entry in the long lists, counted from 0; beside a number these entries
+ * keep what they held. So do all entries after those of the book's sheets,
+ * book[0] of them. tally has the moves and the cuts of all accepted sheets. The
+ * long lists are kept outside the stretches of accepted sheets, and the whole
+ * scratch is zeros.
  * Returns a refusal number: 9, 8.
  */
 uint8_t shares_allocate_book(const uint8_t *book, size_t book_len,

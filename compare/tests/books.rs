@@ -56,7 +56,7 @@ impl Answers {
             && self.tally.holds(self.tally.at_first())
     }
 
-    /// Zeros stand beside a refused sheet. Entries from the count of sheets on are as they were, and with a refusal all of them.
+    /// A refused sheet tells its number alone. Entries from the count of sheets on are as they were, and with a refusal all of them.
     fn tell(&self, answer: &BookShareOut) -> bool {
         let (sheets, total) = match answer {
             BookShareOut::Refused(_) => return self.are_kept(),
@@ -67,10 +67,17 @@ impl Answers {
         let mut cuts = self.cuts.at_first().to_vec();
         let mut firsts = self.firsts.at_first().to_vec();
         for (i, sheet) in sheets.iter().enumerate() {
-            (refusals[i], moves[i], cuts[i], firsts[i]) = match *sheet {
-                SheetShareOut::Refused(number) => (number, 0, 0, 0),
-                SheetShareOut::Shared { moves, cuts, first } => (0, moves, cuts, first as u32),
-            };
+            match *sheet {
+                SheetShareOut::Refused(number) => refusals[i] = number,
+                SheetShareOut::Shared {
+                    moves: of_moves,
+                    cuts: of_cuts,
+                    first,
+                } => {
+                    (refusals[i], moves[i], cuts[i], firsts[i]) =
+                        (0, of_moves, of_cuts, first as u32);
+                }
+            }
         }
         self.refusals.holds(&refusals)
             && self.moves.holds(&moves)

@@ -1,6 +1,6 @@
 -- A whole book on bytes, told from the call on numbers.
 -- Assumes nothing.
-use Prim.Native.Nat.{ℕ, _*_, _/_, _^_, _≤_, _<_, min}
+use Prim.Native.Nat.{ℕ, _*_, _/_, _≤_, _<_, min}
 use mathlib.Core.List.{List, _++_}
 use mathlib.Core.Path.{_≡_, refl, sym, ap, _∙_}
 use native.Mathlib.Nat.{le-refl}
@@ -8,16 +8,17 @@ use native.Mathlib.Omega.{arith}
 use lib.Dec.{ltb}
 use lib.ListN.{length, getD, take, drop, length-append, length-drop}
 use lib.Seq.{length-take-le}
-use borrow.Author.Tests.{ltb-true, lt-ltb, eq-eqb, ne-eqb}
+use borrow.Author.Tests.{ltb-true, eq-eqb, ne-eqb}
 use Rattle.finite.proofs.Below.{by-same}
 use Rattle.finite.proofs.Tests.{by-cond}
+use Rattle.finite.proofs.Lists.{tab-ext}
 use Rattle.model.specs.declared.BookResult.{BookResult}
 use Rattle.model.specs.Limits.{bookEntries}
 use Rattle.model.specs.Contents.{sheetCount}
 use Rattle.model.specs.Refusals.{contentsRefusal, lentRefusal, bookRefusal}
-use Rattle.model.specs.Replies.{absent}
+use Rattle.model.specs.Replies.{Reply, absent}
 use Rattle.model.specs.Book.{takesSheet, firstEntry, sheetAnswer, stretches, longList}
-use Rattle.model.specs.Promises.{entryAt, BookSharedOut, BookAllocated}
+use Rattle.model.specs.Promises.{BookSharedOut, BookAllocated}
 use Rattle.sheet.proofs.OrElse.{or-else-zero}
 use Rattle.sheet.proofs.Refusal.{lent-room}
 use Rattle.contents.specs.Fits.{Fits}
@@ -26,10 +27,10 @@ use Rattle.book.proofs.Stretches.{first-few}
 use Rattle.pricebytes.specs.PriceBytes.{pricesIn, withPrices}
 use Rattle.pricebytes.proofs.Reading.{prices-count}
 use Rattle.pricebytes.proofs.Again.{new-ones}
-use Rattle.cmodel.specs.Numbers.{refusalIn, movesIn, cutsIn, firstIn}
-use Rattle.cmodel.specs.Promises.{withResults, BookInBytes, BookAllocatedInC}
+use Rattle.cmodel.specs.Numbers.{refusalAfter, movesAfter, cutsAfter, firstAfter}
+use Rattle.cmodel.specs.Promises.{results, BookInBytes, BookAllocatedInC}
 use Rattle.cmodel.proofs.Lent.{lent-same}
-use Rattle.cresults.specs.Parts.{Telling, ResultsTold}
+use Rattle.cresults.specs.Parts.{FirstFits, FirstsFit, ResultsTold}
 
 -- all of a book's entries fit the long lists
 entries-fit : {book : List ℕ} → Fits book → (j : ℕ) → j ≤ sheetCount book → firstEntry book j ≤ bookEntries
@@ -48,24 +49,15 @@ not-refused book owners scratch prices e =
     (fits book (one .0), lent-room (three .0))
 
 -- the first entry of each sheet fits 32 bits
-pub firsts-fit : {book owners prices scratch owners′ prices′ scratch′ : List ℕ} {r : BookResult} → Fits book → BookSharedOut book owners prices scratch owners′ prices′ scratch′ r → (j : ℕ) → firstIn (entryAt r j) < 2 ^ 32
+pub firsts-fit : {book owners prices scratch owners′ prices′ scratch′ : List ℕ} {r : BookResult} → Fits book → BookSharedOut book owners prices scratch owners′ prices′ scratch′ r → FirstsFit r
 unfolding sheetAnswer
 firsts-fit {book} f shared j =
     rw (shared .answers j)
-    (by-cond (λ reply. firstIn reply < 2 ^ 32) (ltb j (sheetCount book)) _ _
-    (λ below. by-cond (λ reply. firstIn reply < 2 ^ 32) (takesSheet book j) _ _
+    (by-cond FirstFits (ltb j (sheetCount book)) _ _
+    (λ below. by-cond FirstFits (takesSheet book j) _ _
     (λ _. let few = entries-fit f j (omega (arith, ltb-true j (sheetCount book) below)) in omega arith)
     (λ _. omega arith))
     (λ _. omega arith))
-
--- each sheet that is counted is there
-sheets-present : {book owners prices scratch owners′ prices′ scratch′ : List ℕ} {r : BookResult} → BookSharedOut book owners prices scratch owners′ prices′ scratch′ r → (j : ℕ) → j < sheetCount book → entryAt r j ≡ absent → ⊥
-unfolding sheetAnswer
-sheets-present {book} shared j l =
-    rw (shared .answers j, lt-ltb j (sheetCount book) l)
-    (by-cond (λ reply. reply ≡ absent → ⊥) (takesSheet book j) _ _
-    (λ _ e. let z : _≡_ {A = ℕ} 0 1 = cc in absurd (omega arith))
-    (λ _ e. let z : _≡_ {A = ℕ} 0 1 = cc in absurd (omega arith)))
 
 -- the number that is returned is the refusal
 pub answered : {book owners prices scratch owners′ prices′ scratch′ : List ℕ} {r : BookResult} → BookAllocated book owners prices scratch owners′ prices′ scratch′ r → r .refusal ≡ bookRefusal book (length owners) (length prices) (length scratch)
@@ -178,37 +170,31 @@ module _
     {book owners prices scratch owners′ prices′ scratch′ : List ℕ} {answer : BookResult}
     (b : BookInBytes book owners prices scratch owners′ prices′ scratch′ answer)
   where
-    module _ (z : answer .refusal ≡ 0) where
-      fine : bookRefusal book (length owners) (length (pricesIn prices)) (length scratch) ≡ 0
-      fine = sym (answered (b .allocated)) ∙ z
+    pub tellable : answer .refusal ≡ 0 → FirstsFit answer
+    tellable z =
+        let fine = sym (answered (b .allocated)) ∙ z in
+        let fitting = not-refused book (length owners) (length scratch) (length (pricesIn prices)) fine .0 in
+        firsts-fit fitting (b .allocated .notRefused fine)
 
-      fitting : Fits book
-      fitting = not-refused book (length owners) (length scratch) (length (pricesIn prices)) fine .0
-
-      counted : answer .count ≡ sheetCount book
-      counted = b .allocated .notRefused fine .count
-
-      pub tellable : Telling answer
-      tellable =
-          record {
-            present = λ j l. sheets-present (b .allocated .notRefused fine) j (rw counted at l);
-            few = omega (arith, counted, fitting .sheetsFit);
-            fits = firsts-fit fitting (b .allocated .notRefused fine);
-          }
+    -- a refused book has no sheet to tell of
+    kept : (answer .refusal ≡ 0 → ⊥) → (told : Reply → ℕ → ℕ) → ((before : ℕ) → told absent before ≡ before) → (before : List ℕ) → before ≡ results told answer before
+    unfolding results
+    kept h told nothing before =
+        let refused = b .allocated .turnedDown (λ e. h (answered (b .allocated) ∙ e)) in
+        tab-ext (length before) _ before refl (λ j l. sym (ap (λ reply. told reply (getD before j 0)) (refused .answers j) ∙ nothing (getD before j 0)))
 
     module _ {refusals moves cuts firsts tally : List ℕ} where
       pub book-refused : (answer .refusal ≡ 0 → ⊥) → BookAllocatedInC book owners prices scratch owners′ prices′ scratch′ refusals moves cuts firsts tally refusals moves cuts firsts tally (answer .refusal)
       book-refused h =
-          let off = ne-eqb (answer .refusal) 0 h in
           record {
             answer = answer;
             allocated = b;
             returned = refl;
-            refusalsAtExit = sym (rw off);
-            movesAtExit = sym (rw off);
-            cutsAtExit = sym (rw off);
-            firstsAtExit = sym (rw off);
-            tallyAtExit = sym (rw off);
+            refusalsAtExit = kept h refusalAfter (λ _. refl) refusals;
+            movesAtExit = kept h movesAfter (λ _. refl) moves;
+            cutsAtExit = kept h cutsAfter (λ _. refl) cuts;
+            firstsAtExit = kept h firstAfter (λ _. refl) firsts;
+            tallyAtExit = sym (rw (ne-eqb (answer .refusal) 0 h));
           }
 
       pub book-told : {refusals′ moves′ cuts′ firsts′ tally′ : List ℕ} → answer .refusal ≡ 0 → ResultsTold answer refusals moves cuts firsts refusals′ moves′ cuts′ firsts′ tally′ → BookAllocatedInC book owners prices scratch owners′ prices′ scratch′ refusals moves cuts firsts tally refusals′ moves′ cuts′ firsts′ tally′ 0
@@ -217,9 +203,9 @@ module _
             answer = answer;
             allocated = b;
             returned = sym z;
-            refusalsAtExit = t .refusal ∙ ap (λ n. withResults n (λ j. refusalIn (entryAt answer j)) refusals) (counted z);
-            movesAtExit = t .ofMoves ∙ ap (λ n. withResults n (λ j. movesIn (entryAt answer j)) moves) (counted z);
-            cutsAtExit = t .ofCuts ∙ ap (λ n. withResults n (λ j. cutsIn (entryAt answer j)) cuts) (counted z);
-            firstsAtExit = t .first ∙ ap (λ n. withResults n (λ j. firstIn (entryAt answer j)) firsts) (counted z);
+            refusalsAtExit = t .refusal;
+            movesAtExit = t .ofMoves;
+            cutsAtExit = t .ofCuts;
+            firstsAtExit = t .first;
             tallyAtExit = t .total;
           }

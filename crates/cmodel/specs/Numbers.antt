@@ -18,45 +18,40 @@ verdictNumber (offPrice r) = 512 + 65536 * r
 verdictNumber (priceEnvy i j) = 768 + 65536 * i + 16777216 * j
 verdictNumber accepted = 256
 
--- of the answer for a sheet, what `number` takes of a refusal and what `pick` takes of the moves, cuts and first entry; else 0
-abbrev pub ofSheet : (ℕ → ℕ) → (ℕ → ℕ → ℕ → ℕ) → Reply → ℕ
-ofSheet number pick (refused k) = number k
-ofSheet number pick (shared moves cuts) = 0
-ofSheet number pick (sharedAt moves cuts first) = pick moves cuts first
-ofSheet number pick absent = 0
-ofSheet number pick holds = 0
-ofSheet number pick (unfair i j) = 0
-ofSheet number pick wasteful = 0
-ofSheet number pick (offPrice r) = 0
-ofSheet number pick (priceEnvy i j) = 0
-ofSheet number pick accepted = 0
+-- What memory that held `before` holds when the answer for a sheet is told: what `number` makes of a refusal number, what `pick` takes of the
+-- moves, cuts and first entry. Where nothing is told it keeps what it held.
+abbrev pub toldOver : (ℕ → ℕ → ℕ) → (ℕ → ℕ → ℕ → ℕ) → Reply → ℕ → ℕ
+toldOver number pick (refused k) before = number before k
+toldOver number pick (shared moves cuts) before = pick moves cuts 0
+toldOver number pick (sharedAt moves cuts first) before = pick moves cuts first
+toldOver number pick absent before = before
+toldOver number pick holds before = before
+toldOver number pick (unfair i j) before = before
+toldOver number pick wasteful before = before
+toldOver number pick (offPrice r) before = before
+toldOver number pick (priceEnvy i j) before = before
+toldOver number pick accepted before = before
 
 -- the refusal number, 0 for a sheet that is shared out
+abbrev pub refusalAfter : Reply → ℕ → ℕ
+refusalAfter = toldOver (λ before k. k) (λ moves cuts first. 0)
+
+-- "The number is all that is returned, and lent memory keeps its content.": a refused sheet leaves these alone
+abbrev pub movesAfter : Reply → ℕ → ℕ
+movesAfter = toldOver (λ before k. before) (λ moves cuts first. moves)
+
+abbrev pub cutsAfter : Reply → ℕ → ℕ
+cutsAfter = toldOver (λ before k. before) (λ moves cuts first. cuts)
+
+abbrev pub firstAfter : Reply → ℕ → ℕ
+firstAfter = toldOver (λ before k. before) (λ moves cuts first. first)
+
+-- the refusal number or 0
 abbrev pub refusalIn : Reply → ℕ
-refusalIn = ofSheet (λ k. k) (λ moves cuts first. 0)
-
--- the numbers of a sheet of a book that is shared out, 0 for a refused one
-abbrev pub movesIn : Reply → ℕ
-movesIn = ofSheet (λ k. 0) (λ moves cuts first. moves)
-
-abbrev pub cutsIn : Reply → ℕ
-cutsIn = ofSheet (λ k. 0) (λ moves cuts first. cuts)
-
-abbrev pub firstIn : Reply → ℕ
-firstIn = ofSheet (λ k. 0) (λ moves cuts first. first)
-
--- what the memory lent for the moves, and for the cuts, of one sheet holds in the end: a refusal leaves it as it was
-abbrev pub movesAfter : ShareOut → ℕ → ℕ
-movesAfter (ShareOut.Refused k) before = before
-movesAfter (ShareOut.Shared moves cuts) before = moves
-
-abbrev pub cutsAfter : ShareOut → ℕ → ℕ
-cutsAfter (ShareOut.Refused k) before = before
-cutsAfter (ShareOut.Shared moves cuts) before = cuts
+refusalIn reply = refusalAfter reply 0
 
 -- the answer for one sheet as C gets it
 pub record Told (answer : ShareOut) (moves cuts moves′ cuts′ r : ℕ) : Type 0 where
-  -- the refusal number or 0
   pub returned : r ≡ refusalIn (shareOutReply answer)
-  pub movesAtExit : moves′ ≡ movesAfter answer moves
-  pub cutsAtExit : cuts′ ≡ cutsAfter answer cuts
+  pub movesAtExit : moves′ ≡ movesAfter (shareOutReply answer) moves
+  pub cutsAtExit : cuts′ ≡ cutsAfter (shareOutReply answer) cuts

@@ -1,10 +1,10 @@
 -- What each call promises to C. Plain names are what is handed in, primed ones the same memory when the call returns, r what is returned.
 use Prim.Native.Nat.{ℕ, _+_, _-_, _*_, _≤_}
 use mathlib.Core.Bool.{cond}
-use mathlib.Core.List.{List, [], _∷_, _++_}
+use mathlib.Core.List.{List, [], _∷_}
 use mathlib.Core.Path.{_≡_}
 use lib.Dec.{eqb}
-use lib.ListN.{length, take, drop}
+use lib.ListN.{length, getD, take, drop}
 use Rattle.finite.specs.Lists.{tabulate}
 use Rattle.model.specs.declared.ShareOut.{ShareOut}
 use Rattle.model.specs.declared.BookResult.{BookResult}
@@ -17,7 +17,7 @@ use Rattle.model.specs.Verdicts.{unlessRefused, priceVerdict, listCheck}
 use Rattle.model.specs.Book.{firstEntry}
 use Rattle.model.specs.Promises.{Dominating, Allocated, entryAt, BookAllocated}
 use Rattle.pricebytes.specs.PriceBytes.{pricesIn, withPrices}
-use Rattle.cmodel.specs.Numbers.{verdictNumber, refusalIn, movesIn, cutsIn, firstIn, Told}
+use Rattle.cmodel.specs.Numbers.{verdictNumber, refusalAfter, movesAfter, cutsAfter, firstAfter, Told}
 
 -- The list check.
 pub record ListCheckedInC (s owners lent lent′ : List ℕ) (r : ℕ) : Type 0 where
@@ -71,19 +71,18 @@ pub record BookInBytes (book owners prices scratch owners′ prices′ scratch�
   -- the bytes of the accepted sheets' prices are written; all bytes after them are kept, and all of them with a refusal
   pub bytes : prices′ ≡ cond (eqb (answer .refusal) 0) (withPrices (firstEntry book (sheetCount book)) numbers prices) prices
 
--- a list with its first n entries written over; the entries after them are kept
-unfoldable pub withResults : ℕ → (ℕ → ℕ) → List ℕ → List ℕ
-withResults n f before = tabulate n f ++ drop n before
+-- One of the lists of results, which has an entry for each of 16 sheets: entry j as `told` has it of the reply for sheet j.
+unfoldable pub results : (Reply → ℕ → ℕ) → BookResult → List ℕ → List ℕ
+results told answer before = tabulate (length before) (λ j. told (entryAt answer j) (getD before j 0))
 
--- The whole book. Each list of results has an entry for each of 16 sheets. Those of the book's sheets are written; the entries beyond the
--- book's count keep what they held, and with a refusal all of them do.
+-- The whole book. Entries of sheets that the book does not have keep what they held, and with a refusal all of them do: their reply is `absent`.
 pub record BookAllocatedInC (book owners prices scratch owners′ prices′ scratch′ refusals moves cuts firsts tally refusals′ moves′ cuts′ firsts′ tally′ : List ℕ) (r : ℕ) : Type 0 where
   pub answer : BookResult
   pub allocated : BookInBytes book owners prices scratch owners′ prices′ scratch′ answer
   pub returned : r ≡ answer .refusal
-  -- of each sheet its refusal number, or 0 with its moves, cuts and first entry; zeros stand beside a refusal number
-  pub refusalsAtExit : refusals′ ≡ cond (eqb r 0) (withResults (sheetCount book) (λ j. refusalIn (entryAt answer j)) refusals) refusals
-  pub movesAtExit : moves′ ≡ cond (eqb r 0) (withResults (sheetCount book) (λ j. movesIn (entryAt answer j)) moves) moves
-  pub cutsAtExit : cuts′ ≡ cond (eqb r 0) (withResults (sheetCount book) (λ j. cutsIn (entryAt answer j)) cuts) cuts
-  pub firstsAtExit : firsts′ ≡ cond (eqb r 0) (withResults (sheetCount book) (λ j. firstIn (entryAt answer j)) firsts) firsts
+  -- of each sheet its refusal number, or 0 with its moves, cuts and first entry
+  pub refusalsAtExit : refusals′ ≡ results refusalAfter answer refusals
+  pub movesAtExit : moves′ ≡ results movesAfter answer moves
+  pub cutsAtExit : cuts′ ≡ results cutsAfter answer cuts
+  pub firstsAtExit : firsts′ ≡ results firstAfter answer firsts
   pub tallyAtExit : tally′ ≡ cond (eqb r 0) (answer .tally .moves ∷ answer .tally .cuts ∷ []) tally

@@ -4,12 +4,12 @@ ghost use mathlib.Core.Path.{_≡_};
 ghost use lib.ListN.{length};
 ghost use Rattle.model.specs.Limits.{maxSheets};
 ghost use Rattle.model.specs.Replies.{sheetReply};
-ghost use Rattle.cresults.specs.Parts.{Tellable, SheetTold, Places, SheetsTold, Telling, ResultsTold};
+ghost use Rattle.cresults.specs.Parts.{Tellable, SheetTold, Places, SheetsTold, FirstsFit, ResultsTold};
 use model::BookResult;
 use model::SheetEntry;
 use model::SheetResult;
 
-// Zeros stand beside a refusal. A sheet that the book does not have is never told.
+// A refused sheet tells its number alone, a sheet that the book does not have nothing.
 fn tell_sheet(
     result: SheetResult,
     j: usize,
@@ -25,9 +25,6 @@ fn tell_sheet(
         SheetResult::Absent => {}
         SheetResult::Refused(k) => {
             refusals[j] = k;
-            moves[j] = 0;
-            cuts[j] = 0;
-            firsts[j] = 0;
         }
         SheetResult::Shared {
             moves: m,
@@ -42,20 +39,18 @@ fn tell_sheet(
     }
 }
 
-// The first `count` sheets. The entries after theirs are left alone.
 fn tell_sheets(
-    sheets: [SheetEntry; 16],
-    count: usize,
+    sheets: [SheetEntry; model::MAX_SHEETS],
     refusals: &mut [u8; model::MAX_SHEETS],
     moves: &mut [u64; model::MAX_SHEETS],
     cuts: &mut [u8; model::MAX_SHEETS],
     firsts: &mut [u32; model::MAX_SHEETS],
 )
-    requires { ⌜ Places count sheets (now refusals) (now moves) (now cuts) (now firsts) ⌝ }
-    ensures { λ _. ⌜ SheetsTold count sheets (now (refusals .entry)) (now (moves .entry)) (now (cuts .entry)) (now (firsts .entry)) (now (refusals .exit)) (now (moves .exit)) (now (cuts .exit)) (now (firsts .exit)) ⌝ }
+    requires { ⌜ Places sheets (now refusals) (now moves) (now cuts) (now firsts) ⌝ }
+    ensures { λ _. ⌜ SheetsTold maxSheets sheets (now (refusals .entry)) (now (moves .entry)) (now (cuts .entry)) (now (firsts .entry)) (now (refusals .exit)) (now (moves .exit)) (now (cuts .exit)) (now (firsts .exit)) ⌝ }
 {
     let mut j = 0;
-    while j < count {
+    while j < model::MAX_SHEETS {
         let entry = sheets[j];
         let result = entry.result;
         tell_sheet(result, j, refusals, moves, cuts, firsts);
@@ -91,7 +86,7 @@ pub fn tell(
     firsts: &mut [u32; model::MAX_SHEETS],
     tally: &mut [u64; 2],
 )
-    requires { ⌜ Telling answer ⌝ }
+    requires { ⌜ FirstsFit answer ⌝ }
     ensures { λ _. ⌜ ResultsTold answer (now (refusals .entry)) (now (moves .entry)) (now (cuts .entry)) (now (firsts .entry)) (now (refusals .exit)) (now (moves .exit)) (now (cuts .exit)) (now (firsts .exit)) (now (tally .exit)) ⌝ }
 {
     let mut k = bytes_of(*refusals);
@@ -99,8 +94,7 @@ pub fn tell(
     let mut c = bytes_of(*cuts);
     let mut f = words_of(*firsts);
     let sheets = answer.sheets;
-    let count = answer.count as usize;
-    tell_sheets(sheets, count, &mut k, &mut m, &mut c, &mut f);
+    tell_sheets(sheets, &mut k, &mut m, &mut c, &mut f);
     *refusals = k;
     *moves = m;
     *cuts = c;

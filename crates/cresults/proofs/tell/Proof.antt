@@ -7,19 +7,19 @@ use Rattle.cresults.proofs.tell.Tie as tie
 
 -- back from where the sheets are told: to the copy of each list, to the start
 abbrev refusals : tie.After-f → tie.After-bytes-of
-refusals c = c .before .before .before .before .before .before .before .before .before .before .before .before
+refusals c = c .before .before .before .before .before .before .before .before .before .before .before
 
 abbrev moves : tie.After-f → tie.After-counts-of
-moves c = c .before .before .before .before .before .before .before .before .before .before
+moves c = c .before .before .before .before .before .before .before .before .before
 
 abbrev cuts : tie.After-f → tie.After-bytes-of2
-cuts c = c .before .before .before .before .before .before .before .before
+cuts c = c .before .before .before .before .before .before .before
 
 abbrev firsts : tie.After-f → tie.After-words-of
-firsts c = c .before .before .before .before .before .before
+firsts c = c .before .before .before .before .before
 
 abbrev start : tie.After-f → tie.Start
-start c = c .before .before .before .before .before .before .before .before .before .before .before .before .before .before
+start c = c .before .before .before .before .before .before .before .before .before .before .before .before .before
 
 bytes-of-requires : tie.Need-bytes-of-requires
 bytes-of-requires c κs = search needs
@@ -33,26 +33,21 @@ bytes-of-requires-2 c κs = search needs
 words-of-requires : tie.Need-words-of-requires
 words-of-requires c κs = search needs
 
-cast-count : tie.Need-cast-count
-cast-count c = search needs
-
 tell-sheets-requires : tie.Need-tell-sheets-requires
 unfolding entryAt
 tell-sheets-requires c κs =
     record {
-      present = start c .pre .present;
-      few = start c .pre .few;
       refusal = refusals c .bytes-of .ensures .1;
       ofMoves = moves c .counts-of .ensures .1;
       ofCuts = cuts c .bytes-of2 .ensures .1;
       first = firsts c .words-of .ensures .1;
-      fits = start c .pre .fits;
+      fits = start c .pre;
     }
 
 returns : tie.Need-returns
 returns c =
     let at = c .before .before .before in
-    results-told (c .before .before .tell-sheets .ensures) (refusals at .bytes-of .ensures .0) (moves at .counts-of .ensures .0) (cuts at .bytes-of2 .ensures .0) (firsts at .words-of .ensures .0)
+    results-told (c .before .before .tell-sheets .ensures) (refusals at .bytes-of .ensures) (moves at .counts-of .ensures) (cuts at .bytes-of2 .ensures) (firsts at .words-of .ensures)
 
 pub tell-spec : {M : Type 1} → statement M
 tell-spec =
@@ -62,6 +57,5 @@ tell-spec =
     counts-of-requires
     bytes-of-requires-2
     words-of-requires
-    cast-count
     tell-sheets-requires
     returns)

@@ -1,18 +1,19 @@
 -- `cresults::tell_sheets` meets its contract: after j turns the first j entries of each list are told.
 use Prim.Native.Nat.{_-_, _≤_}
-use mathlib.Core.Path.{_≡_, refl}
+use mathlib.Core.Path.{_≡_}
 use native.Mathlib.Omega.{arith}
 use borrow.Author.Needs.{needs}
+use Rattle.model.specs.Limits.{maxSheets}
 use Rattle.cresults.specs.Parts.{SheetsTold}
 use Rattle.cresults.proofs.Filling.{told-none, told-next}
 use Rattle.cresults.proofs.tell_sheets.Statement.{statement}
 use Rattle.cresults.proofs.tell_sheets.Tie as tie
 
 abbrev Inv-loop : tie.InvT-loop
-Inv-loop count refusals₀ moves₀ cuts₀ firsts₀ sheets j₀ refusals moves cuts firsts j = (j ≤ count) × SheetsTold j sheets refusals₀ moves₀ cuts₀ firsts₀ refusals moves cuts firsts
+Inv-loop refusals₀ moves₀ cuts₀ firsts₀ sheets j₀ refusals moves cuts firsts j = (j ≤ maxSheets) × SheetsTold j sheets refusals₀ moves₀ cuts₀ firsts₀ refusals moves cuts firsts
 
 abbrev μ-loop : tie.MeasureT-loop
-μ-loop count refusals₀ moves₀ cuts₀ firsts₀ sheets j₀ refusals moves cuts firsts j = count - j
+μ-loop refusals₀ moves₀ cuts₀ firsts₀ sheets j₀ refusals moves cuts firsts j = maxSheets - j
 
 loop-holds : tie.Need-loop-holds Inv-loop μ-loop
 loop-holds c = (omega arith, told-none (c .pre))
@@ -27,7 +28,7 @@ tell-sheet-requires : tie.Need-tell-sheet-requires Inv-loop μ-loop
 tell-sheet-requires c κs =
     let turn = c .before .before .before .before .before in
     let asked = turn .before .before .pre in
-    record { present = asked .present _ (turn .loop-test .taken); place = omega (arith, turn .loop-test .taken, asked .few); fits = asked .fits _ }
+    record { place = omega (arith, turn .loop-test .taken); fits = asked .fits _ }
 
 add-j : tie.Need-add-j Inv-loop μ-loop
 add-j c = search needs
@@ -38,11 +39,11 @@ loop-less c = search needs
 loop-again : tie.Need-loop-again Inv-loop μ-loop
 loop-again c =
     let turn = c .before .before .before .before .before .before in
-    (omega arith, told-next (turn .before .before .pre) (turn .before .loop .inv .1) (turn .loop-test .taken) refl (c .tell-sheet .ensures))
+    (omega arith, told-next (turn .before .before .pre) (turn .before .loop .inv .1) (omega (arith, turn .loop-test .taken)) (c .tell-sheet .ensures))
 
 returns : tie.Need-returns Inv-loop μ-loop
 returns c =
-    let all : c .before .loop .j ≡ c .before .before .args .count = omega arith in
+    let all : c .before .loop .j ≡ maxSheets = omega arith in
     rw all at (c .before .loop .inv .1)
 
 pub tell-sheets-spec : {M : Type 1} → statement M
