@@ -1,17 +1,19 @@
 -- The price check on bytes, told from the price check on numbers.
 -- Assumes nothing.
 use Prim.Native.Nat.{ℕ, _*_, _≤_}
+use mathlib.Core.Bool.{not}
 use mathlib.Core.List.{List}
 use mathlib.Core.Path.{_≡_, refl, sym, ap, _∙_}
 use native.Mathlib.Omega.{arith}
+use lib.Dec.{eqb}
 use lib.ListN.{length}
-use borrow.Author.Tests.{ne-eqb}
+use borrow.Author.Tests.{eqb-true, ne-eqb, not-false}
 use Rattle.finite.proofs.Below.{by-same}
 use Rattle.model.specs.Sheet.{agentsOf, choresOf}
 use Rattle.model.specs.Refusals.{_orElse_, sheetRefusal, ownersRefusal, pricesRefusal, priceRefusal}
 use Rattle.model.specs.Replies.{Reply, refused, holds, accepted}
 use Rattle.model.specs.Verdicts.{unlessRefused, listCheck, priceCheck}
-use Rattle.sheet.proofs.OrElse.{or-else-first, or-else-zero}
+use Rattle.sheet.proofs.OrElse.{or-else-first, or-else-zero, peel}
 use Rattle.welfare.proofs.AcceptedSheet.{accepted-holds}
 use Rattle.pricebytes.specs.PriceBytes.{pricesIn}
 use Rattle.cmodel.specs.Numbers.{verdictNumber}
@@ -27,19 +29,15 @@ unless-refused {k} v h = rw (ne-eqb k 0 h)
 not-accepted : {k : ℕ} → refused k ≡ accepted → ⊥
 not-accepted e = let z : _≡_ {A = ℕ} 0 1 = cc in absurd (omega arith)
 
-ends-refused : (a b : ℕ) → a orElse b orElse 10 ≡ 0 → ⊥
-ends-refused a b e =
-    let last = or-else-zero b 10 (or-else-zero a (b orElse 10) e .1) .1 in
-    omega (arith, last)
-
 module _ (s owners bytes : List ℕ) where
   -- other than 4 m bytes are always turned down
   module _ (odd : length bytes ≡ 4 * choresOf s → ⊥) where
     never-fine : priceRefusalInC s owners bytes ≡ 0 → ⊥
     unfolding priceRefusalInC
     never-fine e =
-        ends-refused (sheetRefusal s) (ownersRefusal (agentsOf s) (choresOf s) owners)
-        (rw (ne-eqb (length bytes) (4 * choresOf s) odd) at e)
+        let one = or-else-zero (sheetRefusal s) _ e in
+        let two = or-else-zero (ownersRefusal (agentsOf s) (choresOf s) owners) _ (one .1) in
+        odd (eqb-true (length bytes) (4 * choresOf s) (not-false _ (peel (not (eqb (length bytes) (4 * choresOf s))) 9 _ (two .1) .0)))
 
     odd-refused : priceCheckInC s owners bytes ≡ refused (priceRefusalInC s owners bytes)
     unfolding priceCheckInC
@@ -47,7 +45,7 @@ module _ (s owners bytes : List ℕ) where
 
     -- as any list of other than m prices is
     not-whole : (xs : List ℕ) → (length xs ≡ choresOf s → ⊥) → priceCheck s owners xs ≡ priceCheckInC s owners bytes
-    unfolding priceRefusalInC priceRefusal pricesRefusal priceCheck
+    unfolding priceRefusalInC priceRefusal pricesRefusal priceCheck _orElse_
     not-whole xs wrong =
         let same : priceRefusal s owners xs ≡ priceRefusalInC s owners bytes = rw (ne-eqb (length bytes) (4 * choresOf s) odd, ne-eqb (length xs) (choresOf s) wrong) in
         rw same (unless-refused _ never-fine ∙ sym odd-refused)

@@ -1,6 +1,6 @@
 -- What each call promises to C. Plain names are what is handed in, primed ones the same memory when the call returns, r what is returned.
 use Prim.Native.Nat.{ℕ, _+_, _-_, _*_, _≤_}
-use mathlib.Core.Bool.{cond}
+use mathlib.Core.Bool.{cond, not}
 use mathlib.Core.List.{List, [], _∷_}
 use mathlib.Core.Path.{_≡_}
 use lib.Dec.{eqb}
@@ -11,7 +11,7 @@ use Rattle.model.specs.declared.BookResult.{BookResult}
 use Rattle.model.specs.Instance.{ownerOf, priceOf}
 use Rattle.model.specs.Sheet.{agentsOf, choresOf, asMarked}
 use Rattle.model.specs.Contents.{sheetCount, sheetStart, sheetSize, sheetOf}
-use Rattle.model.specs.Refusals.{_orElse_, sheetRefusal, ownersRefusal, pricesRefusal, lookupRefusal}
+use Rattle.model.specs.Refusals.{_orElse_, _when_, sheetRefusal, ownersRefusal, pricesRefusal, lookupRefusal}
 use Rattle.model.specs.Replies.{Reply, holds, wasteful, accepted}
 use Rattle.model.specs.Verdicts.{unlessRefused, priceVerdict, listCheck}
 use Rattle.model.specs.Book.{firstEntry}
@@ -30,7 +30,8 @@ unfoldable pub priceRefusalInC : List ℕ → List ℕ → List ℕ → ℕ
 priceRefusalInC s owners bytes =
     sheetRefusal s
     orElse ownersRefusal (agentsOf s) (choresOf s) owners
-    orElse cond (eqb (length bytes) (4 * choresOf s)) (pricesRefusal (choresOf s) (pricesIn bytes)) 10
+    orElse 10 when not (eqb (length bytes) (4 * choresOf s))
+    orElse pricesRefusal (choresOf s) (pricesIn bytes)
 
 unfoldable pub priceCheckInC : List ℕ → List ℕ → List ℕ → Reply
 priceCheckInC s owners bytes =
