@@ -1,17 +1,19 @@
 /* Every refusal number of every call, and that a refused call changes nothing
  * that was lent to it. */
-#include <inttypes.h>
-#include <stdio.h>
+#include <stdbool.h>
 #include <string.h>
 
 #include "shares.h"
+#include "tests.h"
 
 #define CHORES 5
 #define PRICES (SHARES_PRICE_BYTES * CHORES)
 #define LONG_PRICES (SHARES_PRICE_BYTES * SHARES_BOOK_ENTRIES)
 
 /* 2 agents, 5 chores, weights 1 and 3. */
-static const uint8_t sheet[] = {2, CHORES, 0, 1, 0, 3, 'e', 'e', 'e', 'e', 'e', 'd', 'd', 'd', 'd', 'e'};
+static const uint8_t sheet[SHARES_SHEET_BYTES(2, CHORES)] = {
+    2, CHORES, 0, 1, 0, 3, 'e', 'e', 'e', 'e', 'e', 'd', 'd', 'd', 'd', 'e',
+};
 static const uint8_t owners[CHORES] = {2, 2, 1, 1, 2};
 static const uint8_t prices[PRICES] = {0, 0, 0, 3, 0, 0, 0, 3, 0, 0, 0, 3, 0, 0, 0, 3, 0, 0, 0, 1};
 
@@ -31,21 +33,12 @@ struct lent {
 };
 static struct lent lent, before;
 
-static int tests, passed;
-
 static void fill(void)
 {
     uint8_t *bytes = (uint8_t *)&lent;
     for (size_t i = 0; i < sizeof lent; i++)
         bytes[i] = (uint8_t)(37 * i + 101);
     memcpy(&before, &lent, sizeof lent);
-}
-
-static int is_as_wanted(const char *call, const char *what, uint32_t got, uint32_t wanted)
-{
-    if (got != wanted)
-        printf("%s, %s: %" PRIu32 ", not %" PRIu32 "\n", call, what, got, wanted);
-    return got == wanted;
 }
 
 static int is_kept(const char *call, const char *what)
@@ -57,7 +50,7 @@ static int is_kept(const char *call, const char *what)
 }
 
 /* Entries from `count` on of the lists that tell of a book's sheets. */
-static int keeps_results_from(size_t count)
+static bool keeps_results_from(size_t count)
 {
     size_t rest = SHARES_BOOK_SHEETS - count;
     return memcmp(lent.refusals + count, before.refusals + count, rest * sizeof *lent.refusals) == 0 &&
@@ -66,13 +59,7 @@ static int keeps_results_from(size_t count)
            memcmp(lent.firsts + count, before.firsts + count, rest * sizeof *lent.firsts) == 0;
 }
 
-static void expect(const char *call, const char *what, uint32_t got, uint32_t wanted)
-{
-    tests++;
-    passed += is_as_wanted(call, what, got, wanted);
-}
-
-/* The same, and nothing lent has changed. */
+/* The answer is as wanted, and nothing lent has changed. */
 static void expect_kept(const char *call, const char *what, uint32_t got, uint32_t wanted)
 {
     tests++;
@@ -364,6 +351,5 @@ int main(void)
     test_find_sheet();
     test_allocate_book();
     test_sheets_of_a_book();
-    printf("the C interface: %d of %d tests passed\n", passed, tests);
-    return passed == tests ? 0 : 1;
+    return finished("refusals in C");
 }

@@ -3,7 +3,7 @@
 #include <stdio.h>
 #include <string.h>
 
-#include "shares.h"
+#include <shares.h>
 
 #define AGENTS 2
 #define CHORES 5
@@ -18,18 +18,18 @@ static const char *const reels[CHORES] = {
 
 int main(void)
 {
-    uint8_t sheet[6 + AGENTS * CHORES] = {AGENTS, CHORES, 0, EASY, 0, DIFFICULT};
+    uint8_t sheet[SHARES_SHEET_BYTES(AGENTS, CHORES)] = {AGENTS, CHORES, 0, EASY, 0, DIFFICULT};
     uint8_t owners[CHORES], prices[SHARES_PRICE_BYTES * CHORES], scratch[SHARES_SCRATCH];
     uint64_t moves;
     uint8_t cuts;
 
     for (size_t i = 0; i < AGENTS; i++)
-        memcpy(sheet + 6 + CHORES * i, rows[i], CHORES);
+        memcpy(sheet + SHARES_HEADER_BYTES + CHORES * i, rows[i], CHORES);
 
     uint8_t refusal = shares_allocate(sheet, sizeof sheet, owners, sizeof owners, prices, sizeof prices, scratch,
                                       sizeof scratch, &moves, &cuts);
     if (refusal != SHARES_OK) {
-        fprintf(stderr, "the sheet is refused: %d\n", refusal);
+        fprintf(stderr, "The sheet is refused with %d. %s\n", refusal, shares_refusal_text(refusal));
         return 1;
     }
     for (size_t i = 0; i < AGENTS; i++) {
@@ -43,7 +43,7 @@ int main(void)
 
     /* The prices are a certificate: whoever doubts the list can check it. */
     uint32_t verdict = shares_check_prices(sheet, sizeof sheet, owners, sizeof owners, prices, sizeof prices);
-    int accepted = shares_verdict_refusal(verdict) == SHARES_OK && shares_verdict_kind(verdict) == SHARES_ACCEPTED;
+    int accepted = shares_verdict_kind(verdict) == SHARES_ACCEPTED;
     printf("the price check: %s\n", accepted ? "accepted" : "not accepted");
     return accepted ? 0 : 1;
 }

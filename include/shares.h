@@ -1,10 +1,8 @@
-/* A proved share-out of easy and difficult chores, for C.
+/* shares: a proved share-out of easy and difficult chores, for C. The manual
+ * page is shares(3).
  *
- * Link with libcapi.a, which `rt staticlib capi` writes to target/staticlib.
- *
- * Every list passes as a pointer and its length in bytes. No pointer may be
- * null, even for a length of 0, and no list that is written may overlap
- * another. Nothing is kept after a call, and no memory is taken.
+ * C99 or later, or C++. Build with what
+ * `pkg-config --cflags --libs shares` prints.
  *
  * Agents, chores and the sheets of a book are numbered from 1.
  *
@@ -18,6 +16,16 @@
  *
  * An owner list has one byte per chore, the number of the agent who does it. A
  * price list has four bytes per chore.
+ *
+ * What a caller owes: every list passes as a pointer and its length in bytes,
+ * with that many bytes behind the pointer. A list of length 0 may be NULL, and
+ * no other pointer may. What a call writes to may overlap nothing else that it
+ * is handed, and no other thread may change what it is handed during the call.
+ * Nothing else is asked: whatever the bytes are, a call stays within them and
+ * returns.
+ *
+ * Nothing is kept after a call, and no memory is taken. The library has no
+ * writable data, so any number of threads may call it at once.
  */
 #ifndef SHARES_H
 #define SHARES_H
@@ -25,14 +33,31 @@
 #include <stddef.h>
 #include <stdint.h>
 
+/* A conversion without a warning in either language. */
+#ifdef __cplusplus
+#define SHARES_AS(type, value) static_cast<type>(value)
+#else
+#define SHARES_AS(type, value) ((type)(value))
+#endif
+
 #ifdef __cplusplus
 extern "C" {
 #endif
+
+/* The release that this header is of. */
+#define SHARES_VERSION "6.2.2"
+#define SHARES_VERSION_MAJOR 6
+#define SHARES_VERSION_MINOR 2
+#define SHARES_VERSION_PATCH 2
 
 /* Limits: 1 to 32 agents, 0 to 200 chores, 1 <= a < b <= 1,000. */
 #define SHARES_MAX_AGENTS 32
 #define SHARES_MAX_CHORES 200
 #define SHARES_MAX_WEIGHT 1000
+/* The bytes of a sheet before its marks, and of a whole sheet of n agents and m
+ * chores. */
+#define SHARES_HEADER_BYTES 6
+#define SHARES_SHEET_BYTES(n, m) (SHARES_HEADER_BYTES + SHARES_AS(size_t, n) * SHARES_AS(size_t, m))
 /* A price handed to shares_check_prices is 1 to this. */
 #define SHARES_MAX_PRICE 1000000
 #define SHARES_PRICE_BYTES 4
@@ -43,6 +68,13 @@ extern "C" {
 #define SHARES_MAX_BOOK 65535
 /* The least entries of each long list for a book. */
 #define SHARES_BOOK_ENTRIES 3200
+
+/* The most stack that each call takes, in bytes, on x86-64. */
+#define SHARES_STACK_ALLOCATE 3072
+#define SHARES_STACK_CHECK_LIST 512
+#define SHARES_STACK_CHECK_PRICES 2048
+#define SHARES_STACK_FIND_SHEET 512
+#define SHARES_STACK_ALLOCATE_BOOK 16384
 
 /* Refusal numbers. A call that could give several gives the first, in the
  * order of its list below. A refused call changes nothing that was lent to it,
@@ -134,52 +166,102 @@ uint8_t shares_allocate_book(const uint8_t *book, size_t book_len,
                              uint32_t firsts[SHARES_BOOK_SHEETS],
                              uint64_t tally[2]);
 
-/* A verdict is one number. Its low byte is 0 or the refusal number, and then the
- * other bytes are 0. The next byte is its kind; the kinds of the two checks
- * share their values. The two high bytes are the agents i and j of a pair, i
- * first, or one chore as a number of 16 bits. */
-#define SHARES_HOLDS 1
-#define SHARES_UNFAIR 2
-#define SHARES_WASTEFUL 3
+/* A verdict is one number. Its low byte is 0 or the refusal number, the next byte
+ * is its kind; the kinds of the two checks share no value. What the two high
+ * bytes hold depends on the kind:
+ *
+ *                        bits 16 to 23          bits 24 to 31
+ *   SHARES_UNFAIR        agent i                agent j
+ *   SHARES_PRICE_ENVY    agent i                agent j
+ *   SHARES_OFF_PRICE     the chore's low byte   the chore's high byte
+ *   every other kind     0                      0
+ */
+enum shares_kind {
+    SHARES_REFUSED = 0, /* either check: the refusal number is not 0 */
+    SHARES_HOLDS = 1,   /* shares_check_list */
+    SHARES_UNFAIR = 2,
+    SHARES_WASTEFUL = 3,
+    SHARES_ACCEPTED = 4, /* shares_check_prices */
+    SHARES_OFF_PRICE = 5,
+    SHARES_PRICE_ENVY = 6
+};
 
-#define SHARES_ACCEPTED 1
-#define SHARES_OFF_PRICE 2
-#define SHARES_PRICE_ENVY 3
-
-static inline uint8_t shares_verdict_refusal(uint32_t verdict)
+static inline enum shares_kind shares_verdict_kind(uint32_t verdict)
 {
-    return (uint8_t)(verdict & 0xff);
+    return SHARES_AS(enum shares_kind, verdict >> 8 & 0xff);
 }
 
-/* 0 with a refusal. */
-static inline uint8_t shares_verdict_kind(uint32_t verdict)
+/* The refusal number of SHARES_REFUSED, 0 with every other kind. */
+static inline uint8_t shares_verdict_refusal(uint32_t verdict)
 {
-    return (uint8_t)(verdict >> 8 & 0xff);
+    return SHARES_AS(uint8_t, verdict & 0xff);
 }
 
 /* i of SHARES_UNFAIR and SHARES_PRICE_ENVY. */
 static inline uint8_t shares_verdict_i(uint32_t verdict)
 {
-    return (uint8_t)(verdict >> 16 & 0xff);
+    return SHARES_AS(uint8_t, verdict >> 16 & 0xff);
 }
 
 /* j of SHARES_UNFAIR and SHARES_PRICE_ENVY. */
 static inline uint8_t shares_verdict_j(uint32_t verdict)
 {
-    return (uint8_t)(verdict >> 24);
+    return SHARES_AS(uint8_t, verdict >> 24);
 }
 
 /* The chore of SHARES_OFF_PRICE. */
 static inline uint16_t shares_verdict_chore(uint32_t verdict)
 {
-    return (uint16_t)(verdict >> 16);
+    return SHARES_AS(uint16_t, verdict >> 16);
 }
 
 /* Entry `entry` of a price list, counted from 0. */
 static inline uint32_t shares_price(const uint8_t *prices, size_t entry)
 {
     const uint8_t *at = prices + SHARES_PRICE_BYTES * entry;
-    return (uint32_t)at[0] << 24 | (uint32_t)at[1] << 16 | (uint32_t)at[2] << 8 | at[3];
+    return SHARES_AS(uint32_t, at[0]) << 24 | SHARES_AS(uint32_t, at[1]) << 16 |
+           SHARES_AS(uint32_t, at[2]) << 8 | SHARES_AS(uint32_t, at[3]);
+}
+
+/* Makes it `price`. */
+static inline void shares_set_price(uint8_t *prices, size_t entry, uint32_t price)
+{
+    uint8_t *at = prices + SHARES_PRICE_BYTES * entry;
+    at[0] = SHARES_AS(uint8_t, price >> 24);
+    at[1] = SHARES_AS(uint8_t, price >> 16 & 0xff);
+    at[2] = SHARES_AS(uint8_t, price >> 8 & 0xff);
+    at[3] = SHARES_AS(uint8_t, price & 0xff);
+}
+
+/* A refusal number as a sentence. */
+static inline const char *shares_refusal_text(uint8_t number)
+{
+    switch (number) {
+    case SHARES_OK:
+        return "Nothing is refused.";
+    case SHARES_BAD_AGENTS:
+        return "The number of agents is 0 or above 32.";
+    case SHARES_BAD_CHORES:
+        return "The number of chores is above 200.";
+    case SHARES_BAD_WEIGHTS:
+        return "The easy weight is 0 or not below the difficult one, or the difficult one is above 1,000.";
+    case SHARES_BAD_MARK:
+        return "A mark is neither 'e' nor 'd'.";
+    case SHARES_BAD_LENGTH:
+        return "The sheet does not have 6 bytes and one for each mark.";
+    case SHARES_BAD_OWNER_COUNT:
+        return "The owner list does not have one entry for each chore.";
+    case SHARES_BAD_OWNER:
+        return "An owner is 0 or above the number of agents.";
+    case SHARES_SHORT_LIST:
+        return "A list that was lent for results, or the scratch, is too short.";
+    case SHARES_BAD_BOOK:
+        return "The bytes are no book, or the book has no sheet of this number.";
+    case SHARES_BAD_PRICE:
+        return "The price list does not have one entry for each chore, or a price is 0 or above 1,000,000.";
+    default:
+        return "No refusal has this number.";
+    }
 }
 
 #ifdef __cplusplus

@@ -1,8 +1,21 @@
-//! The C interface as include/shares.h has it. A slice passes as a pointer
-//! and a length, in the parameters' order.
+//! The C interface as include/shares.h has it, and bench/plain.h a part of it
+//! again. A slice passes as a pointer and a length, in the parameters' order.
 
-extern "C" {
-    pub fn shares_allocate(
+/// Calls that two libraries have: for each, its type and its two names.
+macro_rules! in_both {
+    ($($call:ident: $proved:ident, $plain:ident = fn($($name:ident: $type:ty),*) -> $answer:ty;)*) => {
+        $(pub type $call = unsafe extern "C" fn($($name: $type),*) -> $answer;)*
+        extern "C" {
+            $(
+                pub fn $proved($($name: $type),*) -> $answer;
+                pub fn $plain($($name: $type),*) -> $answer;
+            )*
+        }
+    };
+}
+
+in_both! {
+    Allocate: shares_allocate, plain_allocate = fn(
         sheet: *const u8,
         sheet_len: usize,
         owners: *mut u8,
@@ -12,24 +25,27 @@ extern "C" {
         scratch: *mut u8,
         scratch_len: usize,
         moves: *mut u64,
-        cuts: *mut u8,
+        cuts: *mut u8
     ) -> u8;
-    pub fn shares_check_list(
+    CheckList: shares_check_list, plain_check_list = fn(
         sheet: *const u8,
         sheet_len: usize,
         owners: *const u8,
         owners_len: usize,
         dominating: *mut u8,
-        dominating_len: usize,
+        dominating_len: usize
     ) -> u32;
-    pub fn shares_check_prices(
+    CheckPrices: shares_check_prices, plain_check_prices = fn(
         sheet: *const u8,
         sheet_len: usize,
         owners: *const u8,
         owners_len: usize,
         prices: *const u8,
-        prices_len: usize,
+        prices_len: usize
     ) -> u32;
+}
+
+extern "C" {
     pub fn shares_find_sheet(
         book: *const u8,
         book_len: usize,

@@ -1,6 +1,8 @@
 //! Memory to lend: random content, with entries around it that must stay.
 
 use crate::random::Random;
+use reference::limits::MIN_SCRATCH;
+use reference::price_bytes::PRICE_BYTES;
 
 /// An odd number, so that a list of prices seldom starts at a multiple of four.
 const MARGIN: usize = 13;
@@ -56,6 +58,26 @@ impl<T: Clone + PartialEq> Lent<T> {
             && self.now[..MARGIN] == self.before[..MARGIN]
             && self.now[end..] == self.before[end..]
     }
+}
+
+/// Lengths of the owners, the bytes of prices and the scratch.
+pub type Lengths = [usize; 3];
+
+/// For a share-out: lists of m entries or some more; bytes beyond the last whole price, too.
+pub fn enough(random: &mut Random, chores: usize) -> Lengths {
+    [
+        chores + random.below(4),
+        PRICE_BYTES * chores + random.below(11),
+        MIN_SCRATCH + [0, 0, 0, 1, 40][random.below(5)],
+    ]
+}
+
+/// The same with one of them shorter, often too short.
+pub fn short(random: &mut Random, chores: usize) -> Lengths {
+    let mut lengths = enough(random, chores);
+    let short = random.below(3);
+    lengths[short] = lengths[short].saturating_sub(1 + random.below(12));
+    lengths
 }
 
 /// The owners, the bytes of prices and the scratch hold what is expected, and nothing beside them has changed.

@@ -1,9 +1,9 @@
 //! The share-out against the second program: owners, prices, moves, cuts and all lent memory.
 
-use compare::lent::{assert_all_hold, Lent};
+use compare::lent::{assert_all_hold, enough, short, Lengths, Lent};
 use compare::random::{damaged, Random};
 use compare::shapes::{self, Shape};
-use reference::limits::MIN_SCRATCH;
+use compare::PROVED;
 use reference::share_out::Worked;
 use reference::sheet::Sheet;
 use reference::{plain, price_bytes, share_out, ShareOut};
@@ -16,9 +16,6 @@ const DAMAGED: usize = 40_000;
 const SHORT: usize = 40_000;
 
 type Way = fn(&Sheet) -> Worked;
-
-/// Lengths of the owners, the bytes of prices and the scratch.
-type Lengths = [usize; 3];
 
 /// One sheet through both programs, with every byte that was lent compared.
 fn compared(random: &mut Random, way: Way, sheet: &[u8], lengths: Lengths) -> ShareOut {
@@ -33,7 +30,7 @@ fn compared(random: &mut Random, way: Way, sheet: &[u8], lengths: Lengths) -> Sh
     };
     let (mut moves, mut cuts) = told;
     let [of_owners, of_prices, of_scratch] = lent.each_mut().map(Lent::part);
-    let number = compare::allocate(
+    let number = PROVED.allocate(
         sheet, of_owners, of_prices, of_scratch, &mut moves, &mut cuts,
     );
     let got = (number, moves, cuts);
@@ -43,15 +40,6 @@ fn compared(random: &mut Random, way: Way, sheet: &[u8], lengths: Lengths) -> Sh
     );
     assert_all_hold(&lent, [owners, prices, scratch], sheet);
     answer
-}
-
-/// Lists of m entries or some more; bytes beyond the last whole price, too.
-fn enough(random: &mut Random, chores: usize) -> Lengths {
-    [
-        chores + random.below(4),
-        price_bytes::PRICE_BYTES * chores + random.below(11),
-        MIN_SCRATCH + [0, 0, 0, 1, 40][random.below(5)],
-    ]
 }
 
 /// How many sheets took a cut, and the most moves and cuts of any.
@@ -144,9 +132,7 @@ fn short_lists() {
     let mut refused = 0;
     for _ in 0..SHORT {
         let sheet = shapes::small_sheet(&mut random);
-        let mut lengths = enough(&mut random, usize::from(sheet[1]));
-        let short = random.below(3);
-        lengths[short] = lengths[short].saturating_sub(1 + random.below(12));
+        let lengths = short(&mut random, usize::from(sheet[1]));
         let answer = compared(&mut random, share_out::work, &sheet, lengths);
         refused += usize::from(answer == ShareOut::Refused(8));
     }

@@ -19,6 +19,7 @@ use Rattle.pricebytes.specs.PriceBytes.{pricesIn}
 use Rattle.cmodel.specs.Numbers.{verdictNumber}
 use Rattle.cmodel.specs.Promises.{priceRefusalInC, priceCheckInC, PricesCheckedInC}
 use Rattle.cmodel.proofs.PriceChecks.{whole}
+use Rattle.cmodel.proofs.Verdicts.{told-as}
 
 -- with a refusal the verdict does not count
 unless-refused : {k : ℕ} (v : Reply) → (k ≡ 0 → ⊥) → unlessRefused k v ≡ refused k
@@ -58,7 +59,7 @@ module _ (s owners bytes : List ℕ) where
       (λ odd. absurd (not-accepted (sym (odd-refused odd) ∙ e)))
 
   told : {r : ℕ} {reply : Reply} → r ≡ verdictNumber reply → reply ≡ priceCheckInC s owners bytes → PricesCheckedInC s owners bytes r
-  told is e = record { answer = is ∙ ap verdictNumber e; holding = holding }
+  told is e = record { answer = told-as e is; holding = holding }
 
   -- a refused sheet decides by itself
   pub refused-sheet : {r : ℕ} → r ≡ sheetRefusal s → (r ≡ 0 → ⊥) → PricesCheckedInC s owners bytes r
@@ -66,7 +67,7 @@ module _ (s owners bytes : List ℕ) where
   refused-sheet {r} e h =
       let first : priceRefusalInC s owners bytes ≡ r = rw (← e) (or-else-first {a = r} _ h) in
       let all : priceCheckInC s owners bytes ≡ refused r = rw first (unless-refused _ h) in
-      told {reply = refused r} refl (sym all)
+      told {reply = refused r} (omega arith) (sym all)
 
   -- the bytes of m prices are judged as those prices
   pub judged : {r : ℕ} {xs : List ℕ} {reply : Reply} → length bytes ≡ 4 * choresOf s → xs ≡ pricesIn bytes → reply ≡ priceCheck s owners xs → r ≡ verdictNumber reply → PricesCheckedInC s owners bytes r

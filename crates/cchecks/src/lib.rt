@@ -1,7 +1,7 @@
 // The two checks for C: verdicts as numbers, prices as bytes.
 
 ghost use mathlib.Core.Path.{_≡_};
-ghost use Prim.Native.Nat.{_+_};
+ghost use Prim.Native.Nat.{_+_, _*_};
 ghost use lib.ListN.{length};
 ghost use Rattle.model.specs.Limits.{maxChores};
 ghost use Rattle.model.specs.Replies.{listReply, priceReply};
@@ -11,14 +11,39 @@ ghost use Rattle.cchecks.specs.Parts.{ForPrices};
 use model::ListVerdict;
 use model::PriceVerdict;
 
+// The kinds of verdicts. No two are the same, so that a verdict tells by itself which check it is of.
+const HOLDS: u8 = 1;
+
+const UNFAIR: u8 = 2;
+
+const WASTEFUL: u8 = 3;
+
+const ACCEPTED: u8 = 4;
+
+const OFF_PRICE: u8 = 5;
+
+const PRICE_ENVY: u8 = 6;
+
+fn verdict(kind: u8, values: u16) -> u32
+    ensures { λ r. ⌜ r ≡ 65536 * values + 256 * kind ⌝ }
+{
+    65536 * (values as u32) + 256 * (kind as u32)
+}
+
+fn pair(i: u8, j: u8) -> u16
+    ensures { λ r. ⌜ r ≡ i + 256 * j ⌝ }
+{
+    i as u16 + 256 * (j as u16)
+}
+
 fn list_number(v: ListVerdict) -> u32
     ensures { λ r. ⌜ r ≡ verdictNumber (listReply v) ⌝ }
 {
     match v {
         ListVerdict::Refused(k) => k as u32,
-        ListVerdict::Holds => 256,
-        ListVerdict::Unfair(i, j) => 512 + 65536 * (i as u32) + 16777216 * (j as u32),
-        ListVerdict::Wasteful => 768,
+        ListVerdict::Holds => verdict(HOLDS, 0),
+        ListVerdict::Unfair(i, j) => verdict(UNFAIR, pair(i, j)),
+        ListVerdict::Wasteful => verdict(WASTEFUL, 0),
     }
 }
 
@@ -27,9 +52,9 @@ fn price_number(v: PriceVerdict) -> u32
 {
     match v {
         PriceVerdict::Refused(k) => k as u32,
-        PriceVerdict::OffPrice(c) => 512 + 65536 * (c as u32),
-        PriceVerdict::PriceEnvy(i, j) => 768 + 65536 * (i as u32) + 16777216 * (j as u32),
-        PriceVerdict::Accepted => 256,
+        PriceVerdict::OffPrice(c) => verdict(OFF_PRICE, c),
+        PriceVerdict::PriceEnvy(i, j) => verdict(PRICE_ENVY, pair(i, j)),
+        PriceVerdict::Accepted => verdict(ACCEPTED, 0),
     }
 }
 

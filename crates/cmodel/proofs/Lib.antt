@@ -1,2 +1,3 @@
 pub mod PriceChecks
 pub mod Lent
+pub mod Verdicts

@@ -4,20 +4,6 @@ use mathlib.Core.Path.{_≡_}
 use Rattle.model.specs.declared.ShareOut.{ShareOut}
 use Rattle.model.specs.Replies.{Reply, refused, shared, sharedAt, absent, holds, unfair, wasteful, offPrice, priceEnvy, accepted, shareOutReply}
 
--- The low byte is the refusal number, the next byte the kind of verdict, the two high bytes its values.
--- Kinds 1, 2 and 3: `holds` and `accepted`, `unfair` and `off price`, `wasteful` and `price envy`. A share-out's answer is no verdict.
-abbrev pub verdictNumber : Reply → ℕ
-verdictNumber (refused k) = k
-verdictNumber (shared moves cuts) = 0
-verdictNumber (sharedAt moves cuts first) = 0
-verdictNumber absent = 0
-verdictNumber holds = 256
-verdictNumber (unfair i j) = 512 + 65536 * i + 16777216 * j
-verdictNumber wasteful = 768
-verdictNumber (offPrice r) = 512 + 65536 * r
-verdictNumber (priceEnvy i j) = 768 + 65536 * i + 16777216 * j
-verdictNumber accepted = 256
-
 -- What memory that held `before` holds when the answer for a sheet is told: what `number` makes of a refusal number, what `pick` takes of the
 -- moves, cuts and first entry. Where nothing is told it keeps what it held.
 abbrev pub toldOver : (ℕ → ℕ → ℕ) → (ℕ → ℕ → ℕ → ℕ) → Reply → ℕ → ℕ
@@ -49,6 +35,36 @@ firstAfter = toldOver (λ before k. before) (λ moves cuts first. first)
 -- the refusal number or 0
 abbrev pub refusalIn : Reply → ℕ
 refusalIn reply = refusalAfter reply 0
+
+-- The kind of a verdict. A refusal has none, and neither has the answer of a share-out, which is no verdict.
+abbrev pub verdictKind : Reply → ℕ
+verdictKind (refused k) = 0
+verdictKind (shared moves cuts) = 0
+verdictKind (sharedAt moves cuts first) = 0
+verdictKind absent = 0
+verdictKind holds = 1
+verdictKind (unfair i j) = 2
+verdictKind wasteful = 3
+verdictKind accepted = 4
+verdictKind (offPrice r) = 5
+verdictKind (priceEnvy i j) = 6
+
+-- Its values: the agents of a pair, a byte each, or one chore.
+abbrev pub verdictValues : Reply → ℕ
+verdictValues (refused k) = 0
+verdictValues (shared moves cuts) = 0
+verdictValues (sharedAt moves cuts first) = 0
+verdictValues absent = 0
+verdictValues holds = 0
+verdictValues (unfair i j) = i + 256 * j
+verdictValues wasteful = 0
+verdictValues accepted = 0
+verdictValues (offPrice r) = r
+verdictValues (priceEnvy i j) = i + 256 * j
+
+-- The two high bytes are the values, the next byte is the kind, the low byte the refusal number.
+abbrev pub verdictNumber : Reply → ℕ
+verdictNumber reply = 65536 * verdictValues reply + 256 * verdictKind reply + refusalIn reply
 
 -- the answer for one sheet as C gets it
 pub record Told (answer : ShareOut) (moves cuts moves′ cuts′ r : ℕ) : Type 0 where

@@ -1,6 +1,5 @@
-use mathlib.Core.Path.{ap, _∙_}
 use borrow.Author.Needs.{needs}
-use Rattle.cmodel.specs.Numbers.{verdictNumber}
+use Rattle.cmodel.proofs.Verdicts.{told-as}
 use Rattle.cchecks.proofs.check_list.Statement.{statement}
 use Rattle.cchecks.proofs.check_list.Tie as tie
 
@@ -16,7 +15,7 @@ same-length c = search needs
 returns : tie.Need-returns
 returns c =
     let checked = c .before .before .before .check-list .ensures in
-    record { answer = c .list-number .ensures ∙ ap verdictNumber (checked .answer); shown = checked .shown; kept = checked .kept }
+    record { answer = told-as (checked .answer) (c .list-number .ensures); shown = checked .shown; kept = checked .kept }
 
 pub check-list-spec : {M : Type 1} → statement M
 check-list-spec =

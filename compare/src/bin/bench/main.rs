@@ -1,0 +1,21 @@
+//! Times the proved share-out and both checks beside a plain C program's, and
+//! the share-out beside the second program's too.
+
+mod checks;
+mod share_outs;
+mod sheets;
+mod timing;
+
+use compare::random::Random;
+
+fn main() {
+    println!(
+        "microseconds by sheet: the best of {} runs over {} sheets, weights 1 and 3\n",
+        timing::ROUNDS,
+        sheets::COUNT
+    );
+    let mut random = Random::new(31);
+    share_outs::table(&mut random);
+    println!();
+    checks::table(&mut random);
+}

@@ -1,0 +1,118 @@
+//! The share-out: proved, in plain C, and the second program's.
+
+use crate::sheets::{halves, ladder, sheets, COUNT};
+use crate::timing::in_turn;
+use compare::random::Random;
+use compare::{Library, PLAIN, PROVED};
+use reference::limits::{MAX_CHORES, MIN_SCRATCH};
+use reference::price_bytes::PRICE_BYTES;
+use reference::{plain, price_bytes, ShareOut};
+
+/// What a share-out is lent, and what it answers.
+#[derive(Debug, PartialEq, Eq)]
+pub struct Desk {
+    owners: [u8; MAX_CHORES],
+    prices: [u8; PRICE_BYTES * MAX_CHORES],
+    scratch: [u8; MIN_SCRATCH],
+    moves: u64,
+    pub cuts: u8,
+}
+
+/// One way to share a sheet out.
+type Way = fn(&mut Desk, &[u8]);
+
+impl Desk {
+    fn new() -> Self {
+        Desk {
+            owners: [0; MAX_CHORES],
+            prices: [0; PRICE_BYTES * MAX_CHORES],
+            scratch: [0; MIN_SCRATCH],
+            moves: 0,
+            cuts: 0,
+        }
+    }
+
+    pub fn after(way: Way, sheet: &[u8]) -> Self {
+        let mut desk = Desk::new();
+        way(&mut desk, sheet);
+        desk
+    }
+
+    fn by(&mut self, library: &Library, sheet: &[u8]) {
+        let Desk {
+            owners,
+            prices,
+            scratch,
+            moves,
+            cuts,
+        } = self;
+        let number = library.allocate(sheet, owners, prices, scratch, moves, cuts);
+        assert_eq!(number, 0);
+    }
+
+    fn proved(&mut self, sheet: &[u8]) {
+        self.by(&PROVED, sheet);
+    }
+
+    fn plain(&mut self, sheet: &[u8]) {
+        self.by(&PLAIN, sheet);
+    }
+
+    pub fn second(&mut self, sheet: &[u8]) {
+        let Desk {
+            owners,
+            prices,
+            scratch,
+            ..
+        } = self;
+        match price_bytes::allocate(plain::work, sheet, owners, prices, scratch) {
+            ShareOut::Refused(number) => panic!("refused {number}"),
+            ShareOut::Shared { moves, cuts } => (self.moves, self.cuts) = (moves, cuts),
+        }
+    }
+}
+
+/// The moves and cuts by sheet, on which all three agree, as on the rest.
+fn agreed(sheets: &[Vec<u8>]) -> (f64, f64) {
+    let (mut moves, mut cuts) = (0.0, 0.0);
+    for sheet in sheets {
+        let [proved, plain, second] =
+            [Desk::proved, Desk::plain, Desk::second].map(|way: Way| Desk::after(way, sheet));
+        assert_eq!(proved, second, "{sheet:?}");
+        assert_eq!(plain, second, "{sheet:?}");
+        moves += proved.moves as f64;
+        cuts += f64::from(proved.cuts);
+    }
+    (moves / COUNT as f64, cuts / COUNT as f64)
+}
+
+fn run(way: Way, sheets: &[Vec<u8>]) -> impl FnMut() + '_ {
+    let mut desk = Desk::new();
+    move || sheets.iter().for_each(|sheet| way(&mut desk, sheet))
+}
+
+fn row(name: &str, sheets: &[Vec<u8>]) {
+    let (moves, cuts) = agreed(sheets);
+    let [proved, plain, second] = in_turn([
+        &mut run(Desk::proved, sheets),
+        &mut run(Desk::plain, sheets),
+        &mut run(Desk::second, sheets),
+    ]);
+    println!(
+        "{name:<26}{moves:>7.1}{cuts:>6.1}{proved:>9.2}{plain:>9.2}{:>7.2}{second:>11.2}{:>7.2}",
+        proved / plain,
+        proved / second
+    );
+}
+
+pub fn table(random: &mut Random) {
+    println!(
+        "{:<26}{:>7}{:>6}{:>9}{:>9}{:>7}{:>11}{:>7}",
+        "share-out", "moves", "cuts", "proved", "plain C", "ratio", "reference", "ratio"
+    );
+    for (agents, chores) in [(1, 200), (2, 200), (3, 200), (6, 60), (32, 200)] {
+        let name = format!("{agents} x {chores}, random");
+        row(&name, &sheets(random, halves, agents, chores));
+    }
+    row("32 x 200, disjoint likes", &sheets(random, ladder, 32, 200));
+}

@@ -1,0 +1,128 @@
+//! Random lists and prices for the two checks, and the list check with what it
+//! writes looked at.
+
+use crate::random::{self, damaged, Random};
+use crate::{shapes, Library};
+use reference::limits::MIN_SCRATCH;
+use reference::{dominates, ListVerdict};
+
+/// The share-out's list and prices, by the second program.
+pub fn shared_out(sheet: &[u8]) -> (Vec<u8>, Vec<u32>) {
+    let chores = usize::from(sheet[1]);
+    let (mut owners, mut prices) = (vec![0; chores], vec![0; chores]);
+    reference::allocate(sheet, &mut owners, &mut prices, &mut [0; MIN_SCRATCH]);
+    (owners, prices)
+}
+
+/// A list from the share-out, with some owners changed: often even, often not wasteful.
+pub fn near_fair(sheet: &[u8], random: &mut Random) -> Vec<u8> {
+    let (agents, chores) = (usize::from(sheet[0]), usize::from(sheet[1]));
+    let (mut owners, _) = shared_out(sheet);
+    for _ in 0..random.below(4) {
+        if chores > 0 {
+            let (c, d) = (random.below(chores), random.below(chores));
+            if random.chance(50) {
+                owners.swap(c, d);
+            } else {
+                owners[c] = 1 + random.below(agents) as u8;
+            }
+        }
+    }
+    owners
+}
+
+/// The share-out's list and prices, with an owner or a price changed: often accepted.
+pub fn near_accepted(sheet: &[u8], random: &mut Random) -> (Vec<u8>, Vec<u8>) {
+    let (agents, chores) = (usize::from(sheet[0]), usize::from(sheet[1]));
+    let (mut owners, mut prices) = shared_out(sheet);
+    if chores > 0 && random.chance(60) {
+        owners[random.below(chores)] = 1 + random.below(agents) as u8;
+    }
+    if chores > 0 && random.chance(40) {
+        prices[random.below(chores)] = 1 + random.below(1_000_000) as u32;
+    }
+    (owners, bytes(prices))
+}
+
+pub fn bytes(prices: Vec<u32>) -> Vec<u8> {
+    prices.into_iter().flat_map(u32::to_be_bytes).collect()
+}
+
+/// What the checks are given.
+#[derive(Debug)]
+pub struct Given {
+    pub sheet: Vec<u8>,
+    pub owners: Vec<u8>,
+    pub prices: Vec<u8>,
+    /// Entries that the list check is lent.
+    pub lent: usize,
+}
+
+/// Faults in the sheet, the list, the prices or what is lent; now and then none.
+pub fn damaged_given(random: &mut Random) -> Given {
+    let (agents, chores) = (1 + random.below(4), random.below(6));
+    let shape = shapes::any_shape(random);
+    let mut sheet = shapes::sheet(random, shape, agents, chores);
+    let mut owners = random::owners(random, agents, chores);
+    if random.chance(60) {
+        sheet = damaged(sheet, random);
+    }
+    if random.chance(60) {
+        owners = damaged(owners, random);
+    }
+    Given {
+        sheet,
+        owners,
+        lent: random.below(chores + 3),
+        prices: any_prices(random, chores),
+    }
+}
+
+/// Of m entries mostly; now and then with bytes that make no entry.
+fn any_prices(random: &mut Random, chores: usize) -> Vec<u8> {
+    let entries = chores + [0, 0, 0, 1, 2][random.below(5)];
+    let mut prices = bytes((0..entries).map(|_| price(random)).collect());
+    if random.chance(20) {
+        prices.truncate(prices.len().saturating_sub(random.below(6)));
+    }
+    prices
+}
+
+/// In range mostly, at the limits now and then.
+fn price(random: &mut Random) -> u32 {
+    match random.below(12) {
+        0 => 0,
+        1 => 1_000_001,
+        2 => 1_000_000,
+        3 => u32::MAX,
+        _ => 1 + random.below(9) as u32,
+    }
+}
+
+/// The library's list check, with what it may write looked at.
+pub fn judged(
+    library: &Library,
+    sheet: &[u8],
+    owners: &[u8],
+    lent: usize,
+    random: &mut Random,
+) -> ListVerdict {
+    let before: Vec<u8> = (0..lent + 8).map(|_| random.byte()).collect();
+    let mut after = before.clone();
+    let verdict = library.check_list(sheet, owners, &mut after[..lent]);
+    if verdict == ListVerdict::Wasteful {
+        let chores = usize::from(sheet[1]);
+        assert!(
+            dominates(sheet, &after[..chores], owners),
+            "the list shown does not dominate: {sheet:?} {owners:?} {:?}",
+            &after[..chores]
+        );
+        assert_eq!(after[chores..], before[chores..], "written beyond m");
+    } else {
+        assert_eq!(
+            after, before,
+            "written without `wasteful`: {sheet:?} {owners:?}"
+        );
+    }
+    verdict
+}

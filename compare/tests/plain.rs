@@ -1,0 +1,171 @@
+//! The plain C program against the proved library: every answer, and every byte that was lent. Only the dominating lists that they show
+//! may differ.
+
+use compare::lent::{assert_all_hold, enough, short, Lengths, Lent};
+use compare::lists::{damaged_given, judged, near_accepted, near_fair, Given};
+use compare::random::{self, damaged, Random};
+use compare::shapes::{self, Shape};
+use compare::{Library, PLAIN, PROVED};
+use reference::{ListVerdict, PriceVerdict};
+
+const SHEETS: usize = 10_000;
+const LARGEST: usize = 2_000;
+const DAMAGED: usize = 20_000;
+const LISTS: usize = 10_000;
+
+/// The number, moves and cuts of one sheet, which both libraries told.
+fn shared_out(random: &mut Random, sheet: &[u8], lengths: Lengths) -> (u8, u64, u8) {
+    let lent = lengths.map(|length| Lent::bytes(random, length));
+    let told = (random.word(), random.byte());
+    let share_out = |library: &Library| {
+        let mut lent = lent.clone();
+        let (mut moves, mut cuts) = told;
+        let [owners, prices, scratch] = lent.each_mut().map(Lent::part);
+        let number = library.allocate(sheet, owners, prices, scratch, &mut moves, &mut cuts);
+        ((number, moves, cuts), lent)
+    };
+    let (expected, proved) = share_out(&PROVED);
+    let (got, plain) = share_out(&PLAIN);
+    assert_eq!(
+        got, expected,
+        "number, moves, cuts of {sheet:?}, lent {lengths:?}"
+    );
+    assert_all_hold(&plain, proved.map(|lent| lent.now().to_vec()), sheet);
+    got
+}
+
+/// The most moves and cuts of any sheet.
+fn shared_out_all(seed: u64, count: usize, sheet: fn(&mut Random) -> Vec<u8>) -> (u64, u8) {
+    let mut random = Random::new(seed);
+    let mut most = (0, 0);
+    for _ in 0..count {
+        let sheet = sheet(&mut random);
+        let lengths = enough(&mut random, usize::from(sheet[1]));
+        let (number, moves, cuts) = shared_out(&mut random, &sheet, lengths);
+        assert_eq!(number, 0, "{sheet:?}");
+        most = (moves.max(most.0), cuts.max(most.1));
+    }
+    most
+}
+
+#[test]
+fn sheets_of_any_size() {
+    let (moves, cuts) = shared_out_all(41, SHEETS, shapes::any_sheet);
+    assert!(moves > 100 && cuts > 4, "{moves} {cuts}");
+}
+
+#[test]
+fn sheets_with_many_cuts() {
+    let ladder = |random: &mut Random| {
+        let agents = 1 + random.below(32);
+        shapes::sheet(random, Shape::Ladder, agents, 200)
+    };
+    let (_, cuts) = shared_out_all(42, LARGEST, ladder);
+    assert!(cuts > 10, "{cuts}");
+}
+
+#[test]
+fn sheets_for_few_agents() {
+    let few = |random: &mut Random| {
+        let agents = 1 + random.below(3);
+        let shape = shapes::any_shape(random);
+        shapes::sheet(random, shape, agents, 200)
+    };
+    let (moves, _) = shared_out_all(43, LARGEST, few);
+    assert!(moves > 100, "{moves}");
+}
+
+#[test]
+fn damaged_sheets_and_short_lists() {
+    let mut random = Random::new(44);
+    let mut numbers = [0; 9];
+    for _ in 0..DAMAGED {
+        let mut sheet = shapes::small_sheet(&mut random);
+        if random.chance(70) {
+            sheet = damaged(sheet, &mut random);
+        }
+        let chores = sheet.get(1).copied().map_or(0, usize::from);
+        let lengths = short(&mut random, chores);
+        let (number, ..) = shared_out(&mut random, &sheet, lengths);
+        numbers[usize::from(number)] += 1;
+    }
+    for number in [0, 1, 2, 3, 4, 5, 8] {
+        assert!(numbers[number] > 100, "{numbers:?}");
+    }
+}
+
+#[test]
+fn list_checks() {
+    let mut random = Random::new(45);
+    let mut seen = [0; 3];
+    for _ in 0..LISTS {
+        let sheet = shapes::any_sheet(&mut random);
+        let (agents, chores) = (usize::from(sheet[0]), usize::from(sheet[1]));
+        let owners = if random.chance(80) {
+            near_fair(&sheet, &mut random)
+        } else {
+            random::owners(&mut random, agents, chores)
+        };
+        let lent = chores + random.below(3);
+        let [proved, plain] =
+            [&PROVED, &PLAIN].map(|library| judged(library, &sheet, &owners, lent, &mut random));
+        assert_eq!(plain, proved, "{sheet:?} {owners:?}");
+        match plain {
+            ListVerdict::Holds => seen[0] += 1,
+            ListVerdict::Unfair(..) => seen[1] += 1,
+            ListVerdict::Wasteful => seen[2] += 1,
+            other => panic!("{other:?}"),
+        }
+    }
+    assert!(seen.iter().all(|&count| count > LISTS / 20), "{seen:?}");
+}
+
+#[test]
+fn price_checks() {
+    let mut random = Random::new(46);
+    let mut seen = [0; 3];
+    for _ in 0..LISTS {
+        let sheet = shapes::any_sheet(&mut random);
+        let (owners, prices) = near_accepted(&sheet, &mut random);
+        let [proved, plain] =
+            [&PROVED, &PLAIN].map(|library| library.check_prices(&sheet, &owners, &prices));
+        assert_eq!(plain, proved, "{sheet:?} {owners:?} {prices:?}");
+        match plain {
+            PriceVerdict::Accepted => seen[0] += 1,
+            PriceVerdict::OffPrice(_) => seen[1] += 1,
+            PriceVerdict::PriceEnvy(..) => seen[2] += 1,
+            PriceVerdict::Refused(number) => panic!("refused {number}"),
+        }
+    }
+    assert!(seen.iter().all(|&count| count > LISTS / 50), "{seen:?}");
+}
+
+#[test]
+fn checks_of_damaged_sheets_and_lists() {
+    let mut random = Random::new(47);
+    let mut numbers = [0; 11];
+    for _ in 0..DAMAGED {
+        let given = damaged_given(&mut random);
+        let Given {
+            sheet,
+            owners,
+            prices,
+            lent,
+        } = &given;
+        let [proved, plain] =
+            [&PROVED, &PLAIN].map(|library| judged(library, sheet, owners, *lent, &mut random));
+        assert_eq!(plain, proved, "{given:?}");
+        if let ListVerdict::Refused(number) = plain {
+            numbers[usize::from(number)] += 1;
+        }
+        let [proved, plain] =
+            [&PROVED, &PLAIN].map(|library| library.check_prices(sheet, owners, prices));
+        assert_eq!(plain, proved, "{given:?}");
+        if let PriceVerdict::Refused(number) = plain {
+            numbers[usize::from(number)] += 1;
+        }
+    }
+    for number in [1, 2, 3, 4, 5, 6, 7, 8, 10] {
+        assert!(numbers[number] > 100, "{numbers:?}");
+    }
+}

@@ -1,0 +1,94 @@
+/* A list of length 0 may be NULL: whether it is refused or just what a sheet
+ * without chores needs. */
+#include "shares.h"
+#include "tests.h"
+
+#define CHORES 5
+#define PRICES (SHARES_PRICE_BYTES * CHORES)
+
+/* Without chores, and with some. */
+static const uint8_t bare[SHARES_SHEET_BYTES(1, 0)] = {1, 0, 0, 1, 0, 3};
+static const uint8_t sheet[SHARES_SHEET_BYTES(2, CHORES)] = {
+    2, CHORES, 0, 1, 0, 3, 'e', 'e', 'e', 'e', 'e', 'd', 'd', 'd', 'd', 'e',
+};
+static const uint8_t owners[CHORES] = {2, 2, 1, 1, 2};
+
+static uint8_t lent[CHORES], prices[PRICES], scratch[SHARES_SCRATCH];
+static uint8_t long_lent[SHARES_BOOK_ENTRIES], long_prices[SHARES_PRICE_BYTES * SHARES_BOOK_ENTRIES];
+
+static void test_allocate(void)
+{
+    uint64_t moves = 1;
+    uint8_t cuts = 1;
+    expect("allocate", "no sheet",
+           shares_allocate(NULL, 0, lent, CHORES, prices, PRICES, scratch, sizeof scratch, &moves, &cuts),
+           SHARES_BAD_LENGTH);
+    expect("allocate", "nothing at all", shares_allocate(NULL, 0, NULL, 0, NULL, 0, NULL, 0, &moves, &cuts),
+           SHARES_BAD_LENGTH);
+    expect("allocate", "no owners",
+           shares_allocate(sheet, sizeof sheet, NULL, 0, prices, PRICES, scratch, sizeof scratch, &moves, &cuts),
+           SHARES_SHORT_LIST);
+    expect("allocate", "no prices",
+           shares_allocate(sheet, sizeof sheet, lent, CHORES, NULL, 0, scratch, sizeof scratch, &moves, &cuts),
+           SHARES_SHORT_LIST);
+    expect("allocate", "no scratch",
+           shares_allocate(sheet, sizeof sheet, lent, CHORES, prices, PRICES, NULL, 0, &moves, &cuts),
+           SHARES_SHORT_LIST);
+    expect("allocate", "no chores",
+           shares_allocate(bare, sizeof bare, NULL, 0, NULL, 0, scratch, sizeof scratch, &moves, &cuts), SHARES_OK);
+    expect("allocate", "no chores, moves and cuts", moves == 0 && cuts == 0, 1);
+}
+
+static void test_checks(void)
+{
+    expect("check_list", "no sheet", shares_check_list(NULL, 0, owners, CHORES, lent, CHORES), SHARES_BAD_LENGTH);
+    expect("check_list", "no owners", shares_check_list(sheet, sizeof sheet, NULL, 0, lent, CHORES),
+           SHARES_BAD_OWNER_COUNT);
+    expect("check_list", "nothing lent", shares_check_list(sheet, sizeof sheet, owners, CHORES, NULL, 0),
+           SHARES_SHORT_LIST);
+    expect("check_list", "no chores", shares_verdict_kind(shares_check_list(bare, sizeof bare, NULL, 0, NULL, 0)),
+           SHARES_HOLDS);
+    expect("check_prices", "no sheet", shares_check_prices(NULL, 0, owners, CHORES, prices, PRICES), SHARES_BAD_LENGTH);
+    expect("check_prices", "no owners", shares_check_prices(sheet, sizeof sheet, NULL, 0, prices, PRICES),
+           SHARES_BAD_OWNER_COUNT);
+    expect("check_prices", "no prices", shares_check_prices(sheet, sizeof sheet, owners, CHORES, NULL, 0),
+           SHARES_BAD_PRICE);
+    expect("check_prices", "no chores", shares_verdict_kind(shares_check_prices(bare, sizeof bare, NULL, 0, NULL, 0)),
+           SHARES_ACCEPTED);
+}
+
+/* The lists that tell of a book's sheets have no length: they are always lent. */
+static uint8_t allocate_book(const uint8_t *book, size_t book_len, uint8_t *own, size_t own_len, uint8_t *pri,
+                             size_t pri_len, uint8_t *scr, size_t scr_len)
+{
+    static uint8_t refusals[SHARES_BOOK_SHEETS], cuts[SHARES_BOOK_SHEETS];
+    static uint64_t moves[SHARES_BOOK_SHEETS], tally[2];
+    static uint32_t firsts[SHARES_BOOK_SHEETS];
+    return shares_allocate_book(book, book_len, own, own_len, pri, pri_len, scr, scr_len, refusals, moves, cuts, firsts,
+                                tally);
+}
+
+static void test_books(void)
+{
+    const uint8_t book[] = {1, 0, 5, 0, 6, 1, 0, 0, 1, 0, 3};
+    size_t start = 0, size = 0;
+    expect("find_sheet", "no book", shares_find_sheet(NULL, 0, 1, &start, &size), SHARES_BAD_BOOK);
+    expect("allocate_book", "nothing at all", allocate_book(NULL, 0, NULL, 0, NULL, 0, NULL, 0), SHARES_BAD_BOOK);
+    expect("allocate_book", "no owners",
+           allocate_book(book, sizeof book, NULL, 0, long_prices, sizeof long_prices, scratch, sizeof scratch),
+           SHARES_SHORT_LIST);
+    expect("allocate_book", "no prices",
+           allocate_book(book, sizeof book, long_lent, sizeof long_lent, NULL, 0, scratch, sizeof scratch),
+           SHARES_SHORT_LIST);
+    expect("allocate_book", "no scratch",
+           allocate_book(book, sizeof book, long_lent, sizeof long_lent, long_prices, sizeof long_prices, NULL, 0),
+           SHARES_SHORT_LIST);
+}
+
+int main(void)
+{
+    test_allocate();
+    test_checks();
+    test_books();
+    return finished("lists of no bytes at NULL");
+}

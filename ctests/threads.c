@@ -1,0 +1,68 @@
+/* Many threads at once: each gets the answers that one thread alone gets. */
+#define _POSIX_C_SOURCE 200809L
+#include <pthread.h>
+
+#include "sheets.h"
+#include "tests.h"
+
+#define THREADS 8
+#define SHEETS 16
+#define TURNS 40
+
+struct answer {
+    uint8_t owners[CHORES];
+    uint8_t prices[PRICES];
+    uint8_t dominating[CHORES];
+    uint64_t moves;
+    uint32_t refusal, cuts, list, edited, priced;
+};
+
+static uint8_t sheets[SHEETS][SHEET];
+static struct answer alone[SHEETS];
+
+static void ask(const uint8_t *sheet, struct answer *answer)
+{
+    uint8_t scratch[SHARES_SCRATCH], edited[CHORES], cuts = 0;
+    memset(answer, 0, sizeof *answer);
+    answer->refusal = shares_allocate(sheet, SHEET, answer->owners, CHORES, answer->prices, PRICES, scratch,
+                                      sizeof scratch, &answer->moves, &cuts);
+    answer->cuts = cuts;
+    answer->list = shares_check_list(sheet, SHEET, answer->owners, CHORES, answer->dominating, CHORES);
+    answer->priced = shares_check_prices(sheet, SHEET, answer->owners, CHORES, answer->prices, PRICES);
+    memcpy(edited, answer->owners, CHORES);
+    edited[0] = (uint8_t)(1 + edited[0] % AGENTS);
+    answer->edited = shares_check_list(sheet, SHEET, edited, CHORES, answer->dominating, CHORES);
+}
+
+/* Hands back its argument if some answer differs. */
+static void *ask_again(void *differs)
+{
+    struct answer answer;
+    void *found = NULL;
+    for (size_t turn = 0; turn < TURNS; turn++)
+        for (size_t i = 0; i < SHEETS; i++) {
+            ask(sheets[i], &answer);
+            if (memcmp(&answer, &alone[i], sizeof answer) != 0)
+                found = differs;
+        }
+    return found;
+}
+
+int main(void)
+{
+    pthread_t threads[THREADS];
+    for (size_t i = 0; i < SHEETS; i++) {
+        make_sheet(sheets[i], (uint32_t)i);
+        ask(sheets[i], &alone[i]);
+        expect("alone", "shared out", alone[i].refusal, SHARES_OK);
+        expect("alone", "accepted", shares_verdict_kind(alone[i].priced), SHARES_ACCEPTED);
+    }
+    for (size_t i = 0; i < THREADS; i++)
+        expect("threads", "started", (uint32_t)pthread_create(&threads[i], NULL, ask_again, alone), 0);
+    for (size_t i = 0; i < THREADS; i++) {
+        void *differs = alone;
+        pthread_join(threads[i], &differs);
+        expect("threads", "the same answers", differs == NULL, 1);
+    }
+    return finished("threads");
+}
