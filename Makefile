@@ -2,7 +2,7 @@
 # and every program, then the proved library beside the second program, as C and installed. Its last line is rt's own count.
 SHELL := /bin/bash
 .SHELLFLAGS := -eu -o pipefail -c
-.PHONY: all test ctest ctest-archive ctest-calls ctest-header cases books program installed install uninstall run bench
+.PHONY: all test ctest ctest-archive ctest-prototypes ctest-calls ctest-header cases books program installed install uninstall run bench
 
 CARGO_TEST := cargo test --offline --quiet --manifest-path
 CARGO_BUILD := cargo build --offline --quiet --release --manifest-path

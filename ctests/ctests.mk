@@ -4,12 +4,17 @@ WARN := -Wall -Wextra -Wpedantic -Wconversion -Wsign-conversion -Wshadow -Wcast-
 STRICT_C := gcc $(WARN) -Wstrict-prototypes -Wmissing-prototypes -O2 -Iinclude
 STRICT_CXX := g++ $(WARN) -Wold-style-cast -Wuseless-cast -Wzero-as-null-pointer-constant -O2 -Iinclude
 
-ctest: ctest-archive ctest-calls ctest-header
+ctest: ctest-archive ctest-prototypes ctest-calls ctest-header
 
 # The archive has no writable data, defines the five calls alone, and asks the C library for nothing but copying and filling memory.
 ctest-archive:
 	@size $(ARCHIVE) | awk 'NR == 2 && $$2 + $$3 != 0 { print "the archive has writable data"; exit 1 }'
 	@nm --format=posix $(ARCHIVE) | awk 'NF > 1 && $$2 !~ /[rt]/ { print $$2, $$1 }' | LC_ALL=C sort | diff ctests/symbols -
+
+# The header declares the exports, all of them and nothing else, parameter by parameter.
+ctest-prototypes:
+	@sed -n '/^uint[0-9]*_t shares_/,/);$$/p' include/shares.h | tr -s '\n ' ' ' | sed 's/; */;\n/g' \
+		| diff <(awk -f ctests/exports.awk crates/capi/src/lib.rt) -
 
 # Symbols are bound before the program starts, so that the loader leaves no traces on a painted stack.
 ctest-calls:

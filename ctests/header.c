@@ -1,5 +1,5 @@
-/* What the header adds to the calls: sizes, prices in bytes, refusals as text,
- * verdicts taken apart. This file is compiled as each C and C++ that the
+/* What the header adds to the calls: sizes, limits, prices in bytes, refusals
+ * as text, verdicts taken apart. This file is compiled as each C and C++ that the
  * header is for, and STANDARD names it. */
 #include <string.h>
 
@@ -22,6 +22,36 @@ static void test_sizes(void)
     expect("sheet bytes", "no chores", SHARES_SHEET_BYTES(1, 0) == SHARES_HEADER_BYTES, 1);
     expect("sheet bytes", "of bytes, without a wrap", SHARES_SHEET_BYTES(agents, chores) == 6406, 1);
     expect("sheet bytes", "of sums", SHARES_SHEET_BYTES(1 + 1, 2 + 1) == sizeof sheet, 1);
+}
+
+/* The refusal of a sheet of easy marks. */
+static uint8_t refusal_of(uint32_t agents, uint32_t chores, uint32_t difficult, size_t scratch_len)
+{
+    static uint8_t sheet[SHARES_SHEET_BYTES(SHARES_MAX_AGENTS + 1, SHARES_MAX_CHORES + 1)];
+    static uint8_t owners[SHARES_MAX_CHORES + 1], prices[SHARES_PRICE_BYTES * (SHARES_MAX_CHORES + 1)];
+    static uint8_t scratch[SHARES_SCRATCH];
+    uint64_t moves = 0;
+    uint8_t cuts = 0;
+    memset(sheet, 'e', sizeof sheet);
+    sheet[0] = SHARES_AS(uint8_t, agents);
+    sheet[1] = SHARES_AS(uint8_t, chores);
+    sheet[2] = 0;
+    sheet[3] = 1;
+    sheet[4] = SHARES_AS(uint8_t, difficult >> 8);
+    sheet[5] = SHARES_AS(uint8_t, difficult & 0xff);
+    return shares_allocate(sheet, SHARES_SHEET_BYTES(agents, chores), owners, sizeof owners, prices, sizeof prices,
+                           scratch, scratch_len, &moves, &cuts);
+}
+
+/* Each limit is accepted, and one beyond it is not. */
+static void test_limits(void)
+{
+    const uint32_t n = SHARES_MAX_AGENTS, m = SHARES_MAX_CHORES, s = SHARES_SCRATCH;
+    expect("limits", "all of them", refusal_of(n, m, SHARES_MAX_WEIGHT, s), SHARES_OK);
+    expect("limits", "an agent too many", refusal_of(n + 1, m, SHARES_MAX_WEIGHT, s), SHARES_BAD_AGENTS);
+    expect("limits", "a chore too many", refusal_of(n, m + 1, SHARES_MAX_WEIGHT, s), SHARES_BAD_CHORES);
+    expect("limits", "a weight above", refusal_of(n, m, SHARES_MAX_WEIGHT + 1, s), SHARES_BAD_WEIGHTS);
+    expect("limits", "scratch a byte short", refusal_of(n, m, SHARES_MAX_WEIGHT, s - 1), SHARES_SHORT_LIST);
 }
 
 /* The first and the last byte belong to other entries. */
@@ -99,6 +129,7 @@ static const struct judged priced_lists[] = {
     {{1, 2}, {2, 2}, 0x0000400, SHARES_ACCEPTED, 0, 0, 0},
     {{1, 1}, {2, 2}, 0x0020500, SHARES_OFF_PRICE, 0, 2, 0},
     {{1, 1}, {1, 2}, 0x2010600, SHARES_PRICE_ENVY, 0, 1, 2},
+    {{1, 2}, {SHARES_MAX_PRICE, SHARES_MAX_PRICE}, 0x0000400, SHARES_ACCEPTED, 0, 0, 0},
     {{1, 2}, {2, SHARES_MAX_PRICE + 1}, SHARES_BAD_PRICE, SHARES_REFUSED, SHARES_BAD_PRICE, 0, 0},
 };
 
@@ -137,6 +168,7 @@ int main(void)
 {
     test_version();
     test_sizes();
+    test_limits();
     test_price(0);
     test_price(0x1020304);
     test_price(SHARES_MAX_PRICE);
