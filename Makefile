@@ -8,6 +8,8 @@ CARGO_TEST := cargo test --offline --quiet --manifest-path
 CARGO_BUILD := cargo build --offline --quiet --release --manifest-path
 
 ARCHIVE := target/staticlib/libcapi.a
+VERSION := $(shell sed -n 's/^\#define SHARES_VERSION "\(.*\)"/\1/p' include/shares.h)
+CALLS := $(shell sed -n 's/^uint[0-9]*_t \(shares_[a-z_]*\).*/\1/p' include/shares.h)
 
 all: $(ARCHIVE)
 	@rt check shares

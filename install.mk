@@ -6,10 +6,7 @@ INCLUDEDIR := $(PREFIX)/include
 MANDIR := $(PREFIX)/share/man
 PKGCONFIGDIR := $(LIBDIR)/pkgconfig
 
-VERSION := $(shell sed -n 's/^\#define SHARES_VERSION "\(.*\)"/\1/p' include/shares.h)
-
 # Each call has its page by name.
-CALLS := shares_allocate shares_check_list shares_check_prices shares_find_sheet shares_allocate_book
 CALL_PAGES := $(CALLS:%=$(MANDIR)/man3/%.3)
 
 INSTALLED := $(BINDIR)/shares $(BINDIR)/textform $(LIBDIR)/libshares.a $(INCLUDEDIR)/shares.h $(PKGCONFIGDIR)/shares.pc \

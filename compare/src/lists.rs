@@ -4,7 +4,7 @@
 use crate::random::{self, damaged, Random};
 use crate::{shapes, Library};
 use reference::limits::MIN_SCRATCH;
-use reference::{dominates, ListVerdict};
+use reference::{dominates, ListVerdict, PriceVerdict};
 
 /// The share-out's list and prices, by the second program.
 pub fn shared_out(sheet: &[u8]) -> (Vec<u8>, Vec<u32>) {
@@ -56,6 +56,17 @@ pub struct Given {
     pub prices: Vec<u8>,
     /// Entries that the list check is lent.
     pub lent: usize,
+}
+
+impl Given {
+    /// The library's list check, with what it may write looked at.
+    pub fn judged(&self, library: &Library, random: &mut Random) -> ListVerdict {
+        judged(library, &self.sheet, &self.owners, self.lent, random)
+    }
+
+    pub fn check_prices(&self, library: &Library) -> PriceVerdict {
+        library.check_prices(&self.sheet, &self.owners, &self.prices)
+    }
 }
 
 /// Faults in the sheet, the list, the prices or what is lent; now and then none.

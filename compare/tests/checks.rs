@@ -1,6 +1,6 @@
 //! The two checks against the second program: every answer, and every list that is shown.
 
-use compare::lists::{damaged_given, judged, near_accepted, near_fair, Given};
+use compare::lists::{damaged_given, judged, near_accepted, near_fair};
 use compare::random::{self, Random};
 use compare::{shapes, PROVED};
 use reference::{check_list, is_small_enough, price_bytes, ListVerdict};
@@ -71,20 +71,14 @@ fn damaged_sheets_and_lists_get_the_same_number() {
     let mut random = Random::new(3);
     for _ in 0..SMALL {
         let given = damaged_given(&mut random);
-        let Given {
-            sheet,
-            owners,
-            prices,
-            lent,
-        } = &given;
-        let verdict = judged(&PROVED, sheet, owners, *lent, &mut random);
-        match expected(sheet, owners, *lent) {
+        let verdict = given.judged(&PROVED, &mut random);
+        match expected(&given.sheet, &given.owners, given.lent) {
             ListVerdict::Undecided => {}
             other => assert_eq!(verdict, other, "{given:?}"),
         }
         assert_eq!(
-            PROVED.check_prices(sheet, owners, prices),
-            price_bytes::check(sheet, owners, prices),
+            given.check_prices(&PROVED),
+            price_bytes::check(&given.sheet, &given.owners, &given.prices),
             "{given:?}"
         );
     }

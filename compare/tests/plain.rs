@@ -2,7 +2,7 @@
 //! may differ.
 
 use compare::lent::{assert_all_hold, enough, short, Lengths, Lent};
-use compare::lists::{damaged_given, judged, near_accepted, near_fair, Given};
+use compare::lists::{damaged_given, judged, near_accepted, near_fair};
 use compare::random::{self, damaged, Random};
 use compare::shapes::{self, Shape};
 use compare::{Library, PLAIN, PROVED};
@@ -146,20 +146,12 @@ fn checks_of_damaged_sheets_and_lists() {
     let mut numbers = [0; 11];
     for _ in 0..DAMAGED {
         let given = damaged_given(&mut random);
-        let Given {
-            sheet,
-            owners,
-            prices,
-            lent,
-        } = &given;
-        let [proved, plain] =
-            [&PROVED, &PLAIN].map(|library| judged(library, sheet, owners, *lent, &mut random));
+        let [proved, plain] = [&PROVED, &PLAIN].map(|library| given.judged(library, &mut random));
         assert_eq!(plain, proved, "{given:?}");
         if let ListVerdict::Refused(number) = plain {
             numbers[usize::from(number)] += 1;
         }
-        let [proved, plain] =
-            [&PROVED, &PLAIN].map(|library| library.check_prices(sheet, owners, prices));
+        let [proved, plain] = [&PROVED, &PLAIN].map(|library| given.check_prices(library));
         assert_eq!(plain, proved, "{given:?}");
         if let PriceVerdict::Refused(number) = plain {
             numbers[usize::from(number)] += 1;

@@ -1,58 +1,44 @@
--- A verdict's number tells the verdict: its parts can be taken out as the header takes them out, and the two checks have no kind in common.
+-- A verdict's number tells the verdict: what C takes out of it is the reply, of either check.
 -- Assumes nothing.
 use Prim.Native.Nat.{ℕ, _+_, _*_, _/_, _%_, _<_}
 use mathlib.Core.Path.{_≡_, refl, ap, _∙_}
-use mathlib.Core.Logic.{_⊎_, inl, inr, ⊎-elim}
 use native.Mathlib.Omega.{arith}
-use Rattle.model.specs.declared.ListVerdict.{ListVerdict}
-use Rattle.model.specs.declared.PriceVerdict.{PriceVerdict}
-use Rattle.model.specs.Replies.{Reply, refused, shared, sharedAt, absent, holds, unfair, wasteful, offPrice, priceEnvy, accepted, listReply, priceReply}
-use Rattle.cmodel.specs.Numbers.{refusalIn, verdictKind, verdictValues, verdictNumber}
+use Rattle.model.specs.Replies.{Reply, refused, shared, sharedAt, absent, holds, unfair, wasteful, offPrice, priceEnvy, accepted}
+use Rattle.cmodel.specs.Numbers.{verdict, verdictNumber}
+use Rattle.cmodel.specs.TakenApart.{takenApart, replyOf, Fits}
 
 pub told-as : {x y : Reply} {r : ℕ} → x ≡ y → r ≡ verdictNumber x → r ≡ verdictNumber y
 told-as e is = is ∙ ap verdictNumber e
 
-kind-fits : (reply : Reply) → verdictKind reply < 256
-kind-fits (refused k) = omega arith
-kind-fits (shared moves cuts) = omega arith
-kind-fits (sharedAt moves cuts first) = omega arith
-kind-fits absent = omega arith
-kind-fits holds = omega arith
-kind-fits (unfair i j) = omega arith
-kind-fits wasteful = omega arith
-kind-fits (offPrice r) = omega arith
-kind-fits (priceEnvy i j) = omega arith
-kind-fits accepted = omega arith
+-- refusal number, kind and values lie side by side
+module _ (r k v : ℕ) (low : r < 256) (mid : k < 256) where
+  refusal-byte : (65536 * v + 256 * k + r) % 256 ≡ r
+  refusal-byte = omega arith
 
--- `verdict & 0xff`, `verdict >> 8 & 0xff` and `verdict >> 16`
-pub record TakenApart (reply : Reply) : Type 0 where
-  pub refusal : verdictNumber reply % 256 ≡ refusalIn reply
-  pub kind : verdictNumber reply / 256 % 256 ≡ verdictKind reply
-  pub values : verdictNumber reply / 65536 ≡ verdictValues reply
+  kind-byte : (65536 * v + 256 * k + r) / 256 % 256 ≡ k
+  kind-byte = omega arith
 
-pub taken-apart : (reply : Reply) → refusalIn reply < 256 → TakenApart reply
-taken-apart reply fits =
-    let kind = kind-fits reply in
-    record { refusal = omega (arith, kind); kind = omega (arith, kind); values = omega (arith, kind) }
+  value-bytes : (65536 * v + 256 * k + r) / 65536 ≡ v
+  value-bytes = omega arith
 
--- the two bytes of the values: the agents of a pair
-pub pair-taken-apart : (i j : ℕ) → i < 256 → ((i + 256 * j) % 256 ≡ i) × ((i + 256 * j) / 256 ≡ j)
-pair-taken-apart i j fits = (omega arith, omega arith)
+  apart : takenApart (65536 * v + 256 * k + r) ≡ verdict r k v
+  apart = rw (refusal-byte, kind-byte, value-bytes)
 
-of-list : (v : ListVerdict) → verdictKind (listReply v) < 4
-of-list (ListVerdict.Refused k) = omega arith
-of-list ListVerdict.Holds = omega arith
-of-list (ListVerdict.Unfair i j) = omega arith
-of-list ListVerdict.Wasteful = omega arith
+-- the two bytes of a pair
+pair-low : (i j : ℕ) → i < 256 → (i + 256 * j) % 256 ≡ i
+pair-low i j fits = omega arith
 
-of-prices : (w : PriceVerdict) → (verdictKind (priceReply w) ≡ 0) ⊎ (3 < verdictKind (priceReply w))
-of-prices (PriceVerdict.Refused k) = inl refl
-of-prices (PriceVerdict.OffPrice r) = inr (omega arith)
-of-prices (PriceVerdict.PriceEnvy i j) = inr (omega arith)
-of-prices PriceVerdict.Accepted = inr (omega arith)
+pair-high : (i j : ℕ) → i < 256 → (i + 256 * j) / 256 ≡ j
+pair-high i j fits = omega arith
 
--- where a verdict of each check is of one kind, both are refusals
-pub kinds-apart : (v : ListVerdict) (w : PriceVerdict) → verdictKind (listReply v) ≡ verdictKind (priceReply w) → verdictKind (listReply v) ≡ 0
-kinds-apart v w e =
-    let low = of-list v in
-    ⊎-elim (λ none. e ∙ none) (λ high. absurd (omega (arith, low))) (of-prices w)
+pub verdict-told : (reply : Reply) → Fits reply → replyOf (takenApart (verdictNumber reply)) ≡ reply
+verdict-told (refused k) fits = ap replyOf (apart k 0 0 fits (omega arith))
+verdict-told holds fits = refl
+verdict-told (unfair i j) fits = ap replyOf (apart 0 2 (i + 256 * j) (omega arith) (omega arith)) ∙ rw (pair-low i j fits, pair-high i j fits)
+verdict-told wasteful fits = refl
+verdict-told accepted fits = refl
+verdict-told (offPrice r) fits = ap replyOf (apart 0 5 _ (omega arith) (omega arith))
+verdict-told (priceEnvy i j) fits = ap replyOf (apart 0 6 (i + 256 * j) (omega arith) (omega arith)) ∙ rw (pair-low i j fits, pair-high i j fits)
+verdict-told (shared moves cuts) fits = absurd fits
+verdict-told (sharedAt moves cuts first) fits = absurd fits
+verdict-told absent fits = absurd fits

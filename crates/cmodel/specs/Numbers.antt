@@ -36,35 +36,31 @@ firstAfter = toldOver (λ before k. before) (λ moves cuts first. first)
 abbrev pub refusalIn : Reply → ℕ
 refusalIn reply = refusalAfter reply 0
 
--- The kind of a verdict. A refusal has none, and neither has the answer of a share-out, which is no verdict.
-abbrev pub verdictKind : Reply → ℕ
-verdictKind (refused k) = 0
-verdictKind (shared moves cuts) = 0
-verdictKind (sharedAt moves cuts first) = 0
-verdictKind absent = 0
-verdictKind holds = 1
-verdictKind (unfair i j) = 2
-verdictKind wasteful = 3
-verdictKind accepted = 4
-verdictKind (offPrice r) = 5
-verdictKind (priceEnvy i j) = 6
+-- A verdict: its refusal number, its kind, its values.
+pub record Verdict : Type 0 where
+  pub refusal : ℕ
+  pub kind : ℕ
+  pub values : ℕ
 
--- Its values: the agents of a pair, a byte each, or one chore.
-abbrev pub verdictValues : Reply → ℕ
-verdictValues (refused k) = 0
-verdictValues (shared moves cuts) = 0
-verdictValues (sharedAt moves cuts first) = 0
-verdictValues absent = 0
-verdictValues holds = 0
-verdictValues (unfair i j) = i + 256 * j
-verdictValues wasteful = 0
-verdictValues accepted = 0
-verdictValues (offPrice r) = r
-verdictValues (priceEnvy i j) = i + 256 * j
+abbrev pub verdict : ℕ → ℕ → ℕ → Verdict
+verdict refusal kind values = record { refusal = refusal; kind = kind; values = values }
+
+-- The values are the agents of a pair, a byte each, or one chore. The answer of a share-out is no verdict.
+abbrev pub verdictOf : Reply → Verdict
+verdictOf (refused k) = verdict k 0 0
+verdictOf holds = verdict 0 1 0
+verdictOf (unfair i j) = verdict 0 2 (i + 256 * j)
+verdictOf wasteful = verdict 0 3 0
+verdictOf accepted = verdict 0 4 0
+verdictOf (offPrice r) = verdict 0 5 r
+verdictOf (priceEnvy i j) = verdict 0 6 (i + 256 * j)
+verdictOf (shared moves cuts) = verdict 0 0 0
+verdictOf (sharedAt moves cuts first) = verdict 0 0 0
+verdictOf absent = verdict 0 0 0
 
 -- The two high bytes are the values, the next byte is the kind, the low byte the refusal number.
 abbrev pub verdictNumber : Reply → ℕ
-verdictNumber reply = 65536 * verdictValues reply + 256 * verdictKind reply + refusalIn reply
+verdictNumber reply = 65536 * verdictOf reply .values + 256 * verdictOf reply .kind + verdictOf reply .refusal
 
 -- the answer for one sheet as C gets it
 pub record Told (answer : ShareOut) (moves cuts moves′ cuts′ r : ℕ) : Type 0 where

@@ -2,7 +2,7 @@
 
 use crate::sheets::{halves, sheets};
 use crate::timing::in_turn;
-use compare::lists::{bytes, judged, shared_out, Given};
+use compare::lists::{bytes, shared_out, Given};
 use compare::random::Random;
 use compare::{Library, PLAIN, PROVED};
 use reference::limits::MAX_CHORES;
@@ -38,10 +38,6 @@ fn check_list(library: &Library, given: &Given) -> ListVerdict {
     library.check_list(&given.sheet, &given.owners, lent)
 }
 
-fn check_prices(library: &Library, given: &Given) -> PriceVerdict {
-    library.check_prices(&given.sheet, &given.owners, &given.prices)
-}
-
 fn row(name: &str, all: &[Given], check: impl Fn(&Library, &Given)) {
     let [proved, plain] = in_turn([
         &mut || all.iter().for_each(|given| check(&PROVED, given)),
@@ -53,8 +49,7 @@ fn row(name: &str, all: &[Given], check: impl Fn(&Library, &Given)) {
 fn list_row(random: &mut Random, name: &str, all: &[Given], expected: ListVerdict) {
     for given in all {
         for library in [&PROVED, &PLAIN] {
-            let verdict = judged(library, &given.sheet, &given.owners, given.lent, random);
-            assert_eq!(verdict, expected, "{given:?}");
+            assert_eq!(given.judged(library, random), expected, "{given:?}");
         }
     }
     row(name, all, |library, given| {
@@ -65,12 +60,12 @@ fn list_row(random: &mut Random, name: &str, all: &[Given], expected: ListVerdic
 fn price_row(name: &str, all: &[Given]) {
     for given in all {
         for library in [&PROVED, &PLAIN] {
-            let verdict = check_prices(library, given);
+            let verdict = given.check_prices(library);
             assert_eq!(verdict, PriceVerdict::Accepted, "{given:?}");
         }
     }
     row(name, all, |library, given| {
-        check_prices(library, given);
+        given.check_prices(library);
     });
 }
 

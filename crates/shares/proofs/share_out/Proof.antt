@@ -17,10 +17,14 @@ enum-known-n : tie.Need-enum-known-n
 enum-known-n c = search needs
 
 array-share-prefix-book : tie.Need-array-share-prefix-book
-array-share-prefix-book c = (rw (c .before .n .given .1) at (c .before .before .before .before .read-whole .ensures)) .0
+array-share-prefix-book c =
+    let read = c .before .before .before .before .read-whole in
+    (rw (c .before .n .given .1) at (read .ensures)) .0
 
 slice-aggregate-print-book : tie.Need-slice-aggregate-print-book
-slice-aggregate-print-book c = (rw (c .before .before .n .given .1) at (c .before .before .before .before .before .read-whole .ensures)) .1
+slice-aggregate-print-book c =
+    let read = c .before .before .before .before .before .read-whole in
+    (rw (c .before .before .n .given .1) at (read .ensures)) .1
 
 print-book-requires : tie.Need-print-book-requires
 print-book-requires c κs = search needs
