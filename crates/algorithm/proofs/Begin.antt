@@ -1,28 +1,26 @@
 -- The opening state is a reached one. Of the opening no more is used than `Opened` says.
 -- Assumes nothing.
-use Prim.Native.Nat.{ℕ, _-_, _*_, _<_}
-use mathlib.Core.Path.{_≡_, refl, ap}
-use native.Mathlib.Nat.{le-of-eq}
+use Prim.Native.Nat.{ℕ, _<_}
+use mathlib.Core.Path.{_≡_, refl}
+use native.Mathlib.Nat.{le-of-eq, mul-le-mul-left}
 use native.Mathlib.Omega.{arith}
 use lib.Dec.{ltb}
 use borrow.Author.Tests.{le-ltb}
-use Rattle.finite.proofs.Counts.{count-none}
+use Rattle.finite.proofs.Counts.{count-le, count-none}
 use Rattle.model.specs.Instance.{Instance}
+use Rattle.model.specs.Step2b.{above}
 use Rattle.model.specs.Algorithm.{State, owner, price, group, opening}
+use Rattle.model.specs.MostMoves.{roundMoves}
 use Rattle.algorithm.specs.Kinds.{Sound}
-use Rattle.algorithm.specs.Phases.{calm}
-use Rattle.algorithm.specs.Reached.{roundTop, moveTop, stepNumber, in2b, Reached}
+use Rattle.algorithm.specs.Chain.{chainTop, held, settled}
+use Rattle.algorithm.specs.Reached.{in2b, Reached}
 use Rattle.algorithm.specs.Opened.{Beginning}
-use Rattle.algorithm.proofs.Best.{price-bound}
-use Rattle.algorithm.proofs.Measure.{measure2b-top}
 use Rattle.algorithm.proofs.Opening.{core-opened, opening-group, opening-entitled, opening-owners-length, opening-prices-length, opening-groups-length, opening-entitled-length, opening-picks, opening-opened}
-use Rattle.algorithm.proofs.Machine.{in2b-number}
 
 pub begin-reached : {I : Instance} {s : State} → Sound I → Beginning I s → Reached I s
-unfolding stepNumber moveTop
+unfolding roundMoves chainTop held
 begin-reached {I} {s} S B =
     let K = core-opened (B .opened) S (B .noGroups) (B .noneEntitled) in
-    let rounds : (I .n - s .cuts) * roundTop I ≡ I .n * roundTop I = ap (λ r. r * roundTop I) (omega (arith, B .noCuts)) in
     let none : (i : ℕ) → i < I .n → 0 < group I s i → ⊥ = λ i h g. omega (arith, B .noGroups i h) in
     record {
       shaped = B .shaped;
@@ -32,8 +30,11 @@ begin-reached {I} {s} S B =
       bounded = λ i h. omega (arith, B .noGroups i h);
       top = 0;
       entitled = record { order = λ i j hi hj g. absurd (none i hi g); under = λ i hi g. absurd (none i hi g) };
-      place = in2b (B .in2b) (λ z. absurd (omega arith)) (calm (record { quiet = λ i hi g. absurd (none i hi g) }));
-      budget = omega (arith, B .noMoves, rounds, in2b-number I s (B .in2b), measure2b-top I (owner I s) (price I s) (price-bound S K));
+      room = roundMoves (I .n) (I .m);
+      place =
+          in2b (B .in2b) (λ z. absurd (omega arith))
+          (settled (record { quiet = λ i hi g. absurd (none i hi g) }) (mul-le-mul-left (chainTop I) (count-le (I .m) (λ c. above I (owner I s) (price I s) (owner I s c)))));
+      budget = omega (arith, B .noMoves, B .noCuts);
     }
 
 pub opening-begins : (I : Instance) → 0 < I .n → Beginning I (opening I)

@@ -3,13 +3,13 @@
 use Prim.Native.Nat.{ℕ, _+_, _*_, _≤_, _<_}
 use mathlib.Core.Bool.{Bool, true, false, cond, not, _&&_, _||_}
 use mathlib.Core.Path.{_≡_, refl, sym, ap, _∙_}
-use native.Mathlib.Nat.{mul-le-mul, mul-le-mul-left, le-refl}
+use native.Mathlib.Nat.{mul-le-mul, mul-le-mul-left, le-refl, le-of-eq}
 use native.Mathlib.Omega.{arith}
 use lib.Dec.{leb, ltb}
 use borrow.Author.Tests.{leb-true, le-leb, lt-leb, eq-eqb, ne-eqb, ltb-true, not-true}
 use Rattle.finite.specs.Search.{allBelow, Hit}
 use Rattle.finite.specs.Moves.{Moves}
-use Rattle.finite.proofs.Tests.{by-test, clash, bool-eq, and-elim, and-intro, or-rest, or-left, or-right, or-none, not-on, not-off, leb-scaled}
+use Rattle.finite.proofs.Tests.{by-test, clash, bool-eq, not-yes, and-elim, and-intro, or-rest, or-left, or-right, or-none, not-on, not-off, leb-scaled}
 use Rattle.finite.proofs.Below.{by-less}
 use Rattle.finite.proofs.Search.{any-intro, all-elim, all-intro, all-cong}
 use Rattle.finite.proofs.Extremes.{Top}
@@ -18,6 +18,10 @@ use Rattle.model.specs.Instance.{Instance, cost}
 use Rattle.model.specs.Prices.{best, ratioAtMost}
 use Rattle.algorithm.specs.Kinds.{Sound, dear, ok, level, kindPrice, wanted}
 use Rattle.algorithm.specs.Core.{Core}
+
+-- somebody outside the groups owns uncut chores only
+pub free-uncut : {I : Instance} {x p group : ℕ → ℕ} {cut : ℕ → Bool} → Core I x p group cut → (c : ℕ) → c < I .m → group (x c) ≡ 0 → cut c ≡ false
+free-uncut {cut} K c h g = not-yes (cut c) (λ t. omega (arith, K .cutInGroup c h t))
 
 by-zero {ℓ} : {A : Type ℓ} (g : ℕ) → (g ≡ 0 → A) → (0 < g → A) → A
 by-zero g none some = by-less 0 g some (λ h. none (omega arith))
@@ -180,6 +184,14 @@ module _ {I : Instance} {x p group : ℕ → ℕ} {cut : ℕ → Bool} (S : Soun
   best-uncut i c hi g hc b =
       not-true (cut c) (and-elim (not (cut c)) (ok I i c) (sym (best-outside i c hi g hc) ∙ b) .0)
 
+  -- a chore that nobody finds easy, uncut, is best for everybody
+  pub dear-best : (i c : ℕ) → i < I .n → c < I .m → cut c ≡ false → dear I c ≡ true → best I p i c ≡ true
+  unfolding ok
+  dear-best i c hi hc f d =
+      by-zero (group i)
+      (λ g. best-outside i c hi g hc ∙ and-intro (not-on f) (or-right (I .easy i c) d))
+      (λ g. uncut-best i c hi g hc f)
+
   pub price-positive : (c : ℕ) → c < I .m → 0 < p c
   price-positive c h = rw (price-level c h) (level-positive S (cut c) (dear I c))
 
@@ -192,10 +204,19 @@ module _ {I : Instance} {x p group : ℕ → ℕ} {cut : ℕ → Bool} (S : Soun
       or-none (I .easy (h .index) c) (dear I c)
       (K .groupTakesAll (h .index) (h .below) (ltb-true 0 (group (h .index)) (h .passes)) c hc f) .1
 
+  -- the least price of an uncut chore
+  pub uncut-price : (c : ℕ) → c < I .m → cut c ≡ false → dear I c ≡ false → p c ≡ I .a * I .b
+  unfolding level
+  uncut-price c hc f d = rw (price-level c hc, f, d)
+
+  pub uncut-least : (c : ℕ) → c < I .m → cut c ≡ false → I .a * I .b ≤ p c
+  unfolding level
+  uncut-least c hc f =
+      by-test (dear I c) (λ d. rw (price-level c hc, f, d) (omega (arith, squares S))) (λ d. le-of-eq (sym (uncut-price c hc f d)))
+
   -- once there is a group, uncut chores have one price, and none is dearer
   pub one-price : Hit (I .n) (λ i. ltb 0 (group i)) → (c : ℕ) → c < I .m → cut c ≡ false → p c ≡ I .a * I .b
-  unfolding level
-  one-price h c hc f = rw (price-level c hc, f, none-dear h c hc f)
+  one-price h c hc f = uncut-price c hc f (none-dear h c hc f)
 
   pub none-dearer : Hit (I .n) (λ i. ltb 0 (group i)) → (c : ℕ) → c < I .m → p c ≤ I .a * I .b
   none-dearer h c hc =

@@ -18,9 +18,8 @@ use Rattle.algorithm.specs.Core.{Core}
 use Rattle.algorithm.specs.Phases.{Quiet}
 use Rattle.algorithm.specs.Cuts.{Cuts}
 use Rattle.algorithm.proofs.UpToOne.{up-le, sum-holds}
-use Rattle.algorithm.proofs.Best.{best-outside, uncut-best}
+use Rattle.algorithm.proofs.Best.{free-uncut, best-outside, uncut-best}
 use Rattle.algorithm.proofs.Rings.{least-low, not-due, reachable-closed}
-use Rattle.algorithm.proofs.Calm.{free-uncut}
 use Rattle.algorithm.proofs.Rising.{least-reachable}
 
 -- whoever is out of reach has more than the least sum

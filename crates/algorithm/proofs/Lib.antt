@@ -4,9 +4,9 @@ pub mod Rings
 pub mod Opening
 pub mod Reading
 pub mod End
-pub mod Calm
+pub mod Entitled
+pub mod Chain
 pub mod Rising
-pub mod Measure
 pub mod Stage
 pub mod Cut
 pub mod NextRound

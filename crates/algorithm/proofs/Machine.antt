@@ -3,33 +3,34 @@
 use Prim.Native.Nat.{ℕ, _+_, _-_, _*_, _≤_, _<_}
 use mathlib.Core.Bool.{true, false}
 use mathlib.Core.Path.{_≡_, sym, ap, subst, _∙_}
-use native.Mathlib.Nat.{mul-le-mul-right}
+use native.Mathlib.Nat.{mul-le-mul-left, mul-le-mul-right}
 use native.Mathlib.Omega.{arith}
-use lib.Dec.{eqb}
-use borrow.Author.Tests.{ltb-true, ltb-false, eq-eqb, ne-eqb}
+use lib.Dec.{leb}
+use borrow.Author.Tests.{leb-true, le-leb}
 use Rattle.finite.specs.Search.{anyBelow, Hit}
 use Rattle.finite.specs.Moves.{Moves}
-use Rattle.finite.proofs.Tests.{by-test, clash, cond-true, cond-false}
+use Rattle.finite.proofs.Tests.{by-test, clash}
 use Rattle.finite.proofs.Below.{by-less}
 use Rattle.finite.proofs.Search.{any-elim, any-intro, any-none}
+use Rattle.finite.proofs.Counts.{count-le, count-mono}
 use Rattle.model.specs.Instance.{Instance}
 use Rattle.model.specs.Prices.{priceSum, priceUpToOne}
 use Rattle.model.specs.Step2a.{giver2a, receiver2a, due2a, chore2a}
 use Rattle.model.specs.Step2b.{leastSum, above, within, reachable, due2b, ring2b, giver2b, receiver2b, chore2b}
 use Rattle.model.specs.Algorithm.{State, busy, done, hand, pass, cut, stop, owner, price, group, isEntitled, action, handed, passed, inNewGroup, afterCut, result, step}
+use Rattle.model.specs.MostMoves.{roundMoves, mostMoves}
 use Rattle.algorithm.specs.Kinds.{Sound}
 use Rattle.algorithm.specs.Core.{Core}
-use Rattle.algorithm.specs.Phases.{Entitled, Stage, Calm, calm}
-use Rattle.algorithm.specs.Stages.{ownedBy}
+use Rattle.algorithm.specs.Phases.{Entitled, Stage}
+use Rattle.algorithm.specs.Chain.{chainTop, held, Chain}
 use Rattle.algorithm.specs.Cuts.{NextRound}
-use Rattle.algorithm.specs.Measure.{measure2b, measureTop}
 use Rattle.algorithm.specs.Theorem.{CleanCut}
-use Rattle.algorithm.specs.Reached.{roundTop, placeNumber, stepNumber, Shaped, Since, Place, in2a, in2b, Reached}
-use Rattle.algorithm.proofs.Best.{price-positive, price-bound, core-moved}
-use Rattle.algorithm.proofs.Rings.{least-low, due-found}
-use Rattle.algorithm.proofs.Measure.{measure2b-top, measure2b-falls}
-use Rattle.algorithm.proofs.Calm.{entitled-moved, calm-uncut, calm-moved, calm-ends}
-use Rattle.algorithm.proofs.Stage.{stage-due, stage-apart, stage-moved, stage-core, stage-falls, owned-le, stage-passed, stage-quiet, stage-began}
+use Rattle.algorithm.specs.Reached.{stepNumber, Shaped, Since, Place, in2a, in2b, Reached}
+use Rattle.algorithm.proofs.Best.{core-moved}
+use Rattle.algorithm.proofs.Rings.{is-above, not-above, least-low, due-found}
+use Rattle.algorithm.proofs.Entitled.{entitled-moved}
+use Rattle.algorithm.proofs.Chain.{chain-uncut, chain-moved, chain-begins, chain-ends}
+use Rattle.algorithm.proofs.Stage.{stage-due, stage-apart, stage-moved, stage-core, stage-falls, stage-passed, stage-quiet, stage-began}
 use Rattle.algorithm.proofs.Rising.{cuts-rise}
 use Rattle.algorithm.proofs.Cut.{apart}
 use Rattle.algorithm.proofs.NextRound.{next-round}
@@ -41,39 +42,33 @@ pub data Steps (I : Instance) (s : State) : Type 0 where
   ended : step I s ≡ done s → ((i j : ℕ) → i < I .n → j < I .n → priceUpToOne (I .m) (owner I s) (price I s) i ≤ priceSum (I .m) (owner I s) (price I s) j) → Steps I s
   went : (t : State) → step I s ≡ busy t → Reached I t → stepNumber I t < stepNumber I s → Steps I s
 
--- a place's number is at most that of its stage with all chores in the group at work
-place-under : (I : Instance) (s : State) → measure2b I (owner I s) (price I s) ≤ measureTop I → placeNumber I s ≤ measureTop I + (s .stage * (I .m + 1) + I .m)
-unfolding placeNumber
-place-under I s top =
-    by-test (eqb (s .stage) 0) (λ e. rw e (omega (arith, top)))
-    (λ e. rw e (omega (arith, owned-le I (owner I s) (group I s) (s .stage))))
+leb-more : (i : ℕ) {k l : ℕ} → k ≤ l → leb i k ≡ true → leb i l ≡ true
+leb-more i {k} {l} h e = le-leb i l (omega (arith, leb-true i k e))
 
--- the invariant of a stage is that of its place
-place-of : {I : Instance} → Sound I → (t : State) {top : ℕ} → t .stage ≤ I .n → Core I (owner I t) (price I t) (group I t) (isEntitled I t) → Stage I (price I t) (group I t) (isEntitled I t) (owner I t) top (t .stage) → Place I t top
-place-of {I} S t {top} low K T =
-    by-less 0 (t .stage) (λ h. in2a h low T) λ h.
+-- The invariant of a stage is that of its place, with room for the chores of the groups that are not done.
+place-of : {I : Instance} → Sound I → (t : State) {top room : ℕ} → t .stage ≤ I .n → Core I (owner I t) (price I t) (group I t) (isEntitled I t) → Stage I (price I t) (group I t) (isEntitled I t) (owner I t) top (t .stage) → chainTop I * held I (owner I t) (λ i. leb (group I t i) (t .stage)) ≤ room → Place I t top room
+place-of {I} S t {top} {room} low K T fits =
+    by-less 0 (t .stage) (λ h. in2a h low T fits) λ h.
     let e : t .stage ≡ 0 = omega arith in
     let U : Stage I (price I t) (group I t) (isEntitled I t) (owner I t) top 0 =
     subst (λ g. Stage I (price I t) (group I t) (isEntitled I t) (owner I t) top g) e T in
-    in2b e (λ z. record { began = owner I t; facts = stage-began K U }) (calm (stage-quiet S U))
-
-pub in2b-number : (I : Instance) (s : State) → s .stage ≡ 0 → placeNumber I s ≡ measure2b I (owner I s) (price I s)
-unfolding placeNumber
-in2b-number I s e = cond-true _ _ (eq-eqb (s .stage) 0 e)
-
-in2a-number : (I : Instance) (s : State) → 0 < s .stage → placeNumber I s ≡ measureTop I + (s .stage * (I .m + 1) + ownedBy I (owner I s) (group I s) (s .stage))
-unfolding placeNumber
-in2a-number I s h = cond-false _ _ (ne-eqb (s .stage) 0 (λ e. omega arith))
+    in2b e (λ z. record { began = owner I t; facts = stage-began K U })
+    (chain-begins S K (stage-quiet S U) (subst (λ g. chainTop I * held I (owner I t) (λ i. leb (group I t i) g) ≤ room) e fits))
 
 module _ {I : Instance} {s : State} (R : Reached I s) where
   -- fewer cuts than agents
   pub fewer-cuts : s .cuts < I .n
   fewer-cuts = omega (arith, R .few, R .left)
 
+  -- the rounds so far bound the moves so far, and those left in this round
+  pub moves-bound : s .moves + R .room ≤ mostMoves (I .n) (I .m)
+  unfolding mostMoves
+  moves-bound = omega (arith, R .budget, mul-le-mul-right (roundMoves (I .n) (I .m)) fewer-cuts)
+
   -- a move keeps whatever speaks of prices, groups and cuts
-  handed-reached : (k u : ℕ) → Shaped I (handed I s k u) → Core I (owner I (handed I s k u)) (price I s) (group I s) (isEntitled I s) → Entitled I (price I s) (group I s) (isEntitled I s) (owner I (handed I s k u)) (R .top) → Place I (handed I s k u) (R .top) → stepNumber I (handed I s k u) < stepNumber I s → Reached I (handed I s k u)
+  handed-reached : (k u : ℕ) → Shaped I (handed I s k u) → Core I (owner I (handed I s k u)) (price I s) (group I s) (isEntitled I s) → Entitled I (price I s) (group I s) (isEntitled I s) (owner I (handed I s k u)) (R .top) → 0 < R .room → Place I (handed I s k u) (R .top) (R .room - 1) → Reached I (handed I s k u)
   unfolding handed group isEntitled
-  handed-reached k u shaped core entitled place falls =
+  handed-reached k u shaped core entitled some place =
       record {
         shaped = shaped;
         core = core;
@@ -82,22 +77,18 @@ module _ {I : Instance} {s : State} (R : Reached I s) where
         bounded = R .bounded;
         top = R .top;
         entitled = entitled;
+        room = R .room - 1;
         place = place;
         budget = omega (arith, R .budget);
       }
 
-  -- with the cuts unchanged the number of the place decides
-  handed-falls : (k u : ℕ) → placeNumber I (handed I s k u) < placeNumber I s → stepNumber I (handed I s k u) < stepNumber I s
+  handed-falls : (k u : ℕ) → 0 < R .room → stepNumber I (handed I s k u) < stepNumber I s
   unfolding stepNumber handed
-  handed-falls k u h = omega arith
+  handed-falls k u some = omega (arith, moves-bound)
 
-  -- the prices bound the number of the place
-  measure-low : Sound I → (y : ℕ → ℕ) → measure2b I y (price I s) ≤ measureTop I
-  measure-low S y = measure2b-top I y (price I s) (price-bound S (R .core))
-
-  passed-reached : Place I (passed I s) (R .top) → stepNumber I (passed I s) < stepNumber I s → Reached I (passed I s)
+  passed-reached : Place I (passed I s) (R .top) (R .room) → Reached I (passed I s)
   unfolding passed group isEntitled
-  passed-reached place falls =
+  passed-reached place =
       record {
         shaped = record { owners = R .shaped .owners; prices = R .shaped .prices; groups = R .shaped .groups; entitled = R .shaped .entitled; numbered = R .shaped .numbered };
         core = R .core;
@@ -106,21 +97,21 @@ module _ {I : Instance} {s : State} (R : Reached I s) where
         bounded = R .bounded;
         top = R .top;
         entitled = R .entitled;
+        room = R .room;
         place = place;
-        budget = omega (arith, R .budget);
+        budget = R .budget;
       }
 
-  cut-falls : Sound I → Core I (owner I s) (price I (afterCut I s)) (group I (afterCut I s)) (isEntitled I (afterCut I s)) → stepNumber I (afterCut I s) < stepNumber I s
-  unfolding afterCut stepNumber roundTop
-  cut-falls S K =
-      let t = afterCut I s in
-      let top = measure2b-top I (owner I t) (price I t) (price-bound S K) in
-      let one : (I .n - s .cuts) * roundTop I ≡ (I .n - (s .cuts + 1) + 1) * roundTop I = ap (λ r. r * roundTop I) (omega (arith, fewer-cuts)) in
-      omega (arith, place-under I t top, mul-le-mul-right (I .m + 1) fewer-cuts, one)
+  cut-falls : stepNumber I (afterCut I s) < stepNumber I s
+  unfolding afterCut stepNumber
+  cut-falls =
+      let one : (I .n - s .cuts) * (I .n + 1) ≡ (I .n - (s .cuts + 1) + 1) * (I .n + 1) = ap (λ r. r * (I .n + 1)) (omega (arith, fewer-cuts)) in
+      omega (arith, one, fewer-cuts)
 
-  cut-reached : Sound I → NextRound I (owner I s) (price I s) (group I s) (isEntitled I s) (s .cuts) (price I (afterCut I s)) (group I (afterCut I s)) (isEntitled I (afterCut I s)) → stepNumber I (afterCut I s) < stepNumber I s → Reached I (afterCut I s)
-  unfolding afterCut
-  cut-reached S N falls =
+  cut-reached : Sound I → NextRound I (owner I s) (price I s) (group I s) (isEntitled I s) (s .cuts) (price I (afterCut I s)) (group I (afterCut I s)) (isEntitled I (afterCut I s)) → Reached I (afterCut I s)
+  unfolding afterCut roundMoves chainTop held
+  cut-reached S N =
+      let t = afterCut I s in
       record {
         shaped = cut-shaped (R .shaped);
         core = N .core;
@@ -129,13 +120,14 @@ module _ {I : Instance} {s : State} (R : Reached I s) where
         bounded = N .bounded;
         top = leastSum I (owner I s) (price I s);
         entitled = N .entitled;
-        place = place-of S (afterCut I s) (omega (arith, fewer-cuts)) (N .core) (N .stage);
+        room = roundMoves (I .n) (I .m);
+        place = place-of S t (omega (arith, fewer-cuts)) (N .core) (N .stage) (mul-le-mul-left (chainTop I) (count-le (I .m) (λ c. leb (group I t (owner I t c)) (t .stage))));
         budget = omega (arith, R .budget);
       }
 
   module _ (S : Sound I) where
     -- 2b with a move due
-    move2b : s .stage ≡ 0 → (0 < R .top → Since I s (R .top)) → Calm I (price I s) (group I s) (isEntitled I s) (owner I s) → due2b I (owner I s) (price I s) ≡ true → Steps I s
+    move2b : s .stage ≡ 0 → (0 < R .top → Since I s (R .top)) → Chain I (price I s) (group I s) (isEntitled I s) (owner I s) (R .room) → due2b I (owner I s) (price I s) ≡ true → Steps I s
     unfolding result handed group isEntitled
     move2b e since C h =
         let x = owner I s in
@@ -146,28 +138,25 @@ module _ {I : Instance} {s : State} (R : Reached I s) where
         let u = receiver2b I x p in
         let v : Moves (I .m) x (owner I (handed I s k u)) k w u =
         handed-moves (R .shaped) k w u (d .chore) (d .owned) (λ q. clash (d .near) (ap (λ i. within I x p (ring2b I x p - 1) i) (sym q) ∙ d .notNearer)) in
-        let falls = measure2b-falls d v (R .core .owner) (price-positive S (R .core) k (d .chore)) in
-        let t = handed I s k u in
-        let number : stepNumber I t < stepNumber I s =
-        handed-falls k u (omega (arith, in2b-number I s e, in2b-number I t e, falls)) in
-        went t (stepped I s (hands2b I s e h (d .receiver) (d .chore)))
-        (handed-reached k u (handed-shaped (R .shaped) k u (d .chore)) (core-moved S (R .core) v (d .receiver) (d .wants)) (entitled-moved (R .entitled) v (calm-uncut S (R .core) C d))
-        (in2b e (λ z. record { began = since z .began; facts = since z .facts }) (calm-moved S (R .core) C d v)) number)
-        number
+        let less = chain-moved S (R .core) d v C in
+        went (handed I s k u) (stepped I s (hands2b I s e h (d .receiver) (d .chore)))
+        (handed-reached k u (handed-shaped (R .shaped) k u (d .chore)) (core-moved S (R .core) v (d .receiver) (d .wants)) (entitled-moved (R .entitled) v (chain-uncut S (R .core) d C)) (less .0)
+        (in2b e (λ z. record { began = since z .began; facts = since z .facts }) (less .1)))
+        (handed-falls k u (less .0))
 
     -- 2b with nobody above the least sum
     stop2b : s .stage ≡ 0 → due2b I (owner I s) (price I s) ≡ false → anyBelow (I .n) (above I (owner I s) (price I s)) ≡ false → Steps I s
-    unfolding result above
+    unfolding result
     stop2b e h none =
         let x = owner I s in
         let p = price I s in
         ended (stepped I s (stops2b I s e h none))
-        (λ i j hi hj. omega (arith, ltb-false (leastSum I x p) (priceUpToOne (I .m) x p i) (any-none (I .n) (above I x p) none i hi), least-low I x p (S .some) .under j hj))
+        (λ i j hi hj. omega (arith, not-above I x p i (any-none (I .n) (above I x p) none i hi), least-low I x p (S .some) .under j hj))
 
     -- 2a with a move due
-    move2a : 0 < s .stage → s .stage ≤ I .n → Stage I (price I s) (group I s) (isEntitled I s) (owner I s) (R .top) (s .stage) → due2a I (owner I s) (price I s) (group I s) (isEntitled I s) (s .stage) ≡ true → Steps I s
-    unfolding result handed group isEntitled
-    move2a some low T h =
+    move2a : 0 < s .stage → s .stage ≤ I .n → Stage I (price I s) (group I s) (isEntitled I s) (owner I s) (R .top) (s .stage) → chainTop I * held I (owner I s) (λ i. leb (group I s i) (s .stage)) ≤ R .room → due2a I (owner I s) (price I s) (group I s) (isEntitled I s) (s .stage) ≡ true → Steps I s
+    unfolding result handed group isEntitled chainTop
+    move2a some low T fits h =
         let x = owner I s in
         let p = price I s in
         let g = s .stage in
@@ -177,45 +166,41 @@ module _ {I : Instance} {s : State} (R : Reached I s) where
         let c = chore2a I x p (group I s) (isEntitled I s) g in
         let v : Moves (I .m) x (owner I (handed I s c j)) c i j =
         handed-moves (R .shaped) c i j (d .chore) (d .owned) (stage-apart d) in
-        let t = handed I s c j in
-        let number : stepNumber I t < stepNumber I s =
-        handed-falls c j (omega (arith, in2a-number I s some, in2a-number I t some, stage-falls d v)) in
-        went t (stepped I s (hands2a I s some h (d .chore)))
-        (handed-reached c j (handed-shaped (R .shaped) c j (d .chore)) (stage-core S (R .core) T d v) (entitled-moved (R .entitled) v (d .uncut)) (in2a some low (stage-moved S (R .core) T d v)) number)
-        number
+        let less : chainTop I * held I (owner I (handed I s c j)) (λ a. leb (group I s a) g) + 1 ≤ R .room =
+        omega (arith, fits, mul-le-mul-left (chainTop I) (stage-falls d v), stage-apart d, d .giver, d .receiver) in
+        let left : 0 < R .room = omega arith in
+        went (handed I s c j) (stepped I s (hands2a I s some h (d .chore)))
+        (handed-reached c j (handed-shaped (R .shaped) c j (d .chore)) (stage-core S (R .core) T d v) (entitled-moved (R .entitled) v (d .uncut)) left
+        (in2a some low (stage-moved S (R .core) T d v) (omega arith)))
+        (handed-falls c j left)
 
     -- 2a with no move due: the group before, or 2b
-    pass2a : 0 < s .stage → s .stage ≤ I .n → Stage I (price I s) (group I s) (isEntitled I s) (owner I s) (R .top) (s .stage) → due2a I (owner I s) (price I s) (group I s) (isEntitled I s) (s .stage) ≡ false → Steps I s
-    unfolding result passed group isEntitled stepNumber
-    pass2a some low T h =
-        let t = passed I s in
-        let one : s .stage * (I .m + 1) ≡ (s .stage - 1 + 1) * (I .m + 1) = ap (λ g. g * (I .m + 1)) (omega arith) in
-        let falls : placeNumber I t < placeNumber I s =
-        omega (arith, in2a-number I s some, place-under I t (measure-low S (owner I t)), one) in
-        let number : stepNumber I t < stepNumber I s = omega (arith, falls) in
-        went t (stepped I s (passes2a I s some h)) (passed-reached (place-of S t (omega arith) (R .core) (stage-passed some h T)) number) number
+    pass2a : 0 < s .stage → s .stage ≤ I .n → Stage I (price I s) (group I s) (isEntitled I s) (owner I s) (R .top) (s .stage) → chainTop I * held I (owner I s) (λ i. leb (group I s i) (s .stage)) ≤ R .room → due2a I (owner I s) (price I s) (group I s) (isEntitled I s) (s .stage) ≡ false → Steps I s
+    unfolding result passed group isEntitled stepNumber held
+    pass2a some low T fits h =
+        let fewer = count-mono (I .m) (λ c. leb (group I s (owner I s c)) (s .stage - 1)) (λ c. leb (group I s (owner I s c)) (s .stage)) (λ c l e. leb-more (group I s (owner I s c)) (omega arith) e) in
+        went (passed I s) (stepped I s (passes2a I s some h))
+        (passed-reached (place-of S (passed I s) (omega arith) (R .core) (stage-passed some h T) (omega (arith, fits, mul-le-mul-left (chainTop I) fewer))))
+        (omega arith)
 
     -- 3: somebody is above the least sum and out of reach
-    module _ (C : Calm I (price I s) (group I s) (isEntitled I s) (owner I s)) (h : due2b I (owner I s) (price I s) ≡ false) (a : Hit (I .n) (above I (owner I s) (price I s))) where
+    module _ (C : Chain I (price I s) (group I s) (isEntitled I s) (owner I s) (R .room)) (h : due2b I (owner I s) (price I s) ≡ false) (a : Hit (I .n) (above I (owner I s) (price I s))) where
       high : leastSum I (owner I s) (price I s) < priceUpToOne (I .m) (owner I s) (price I s) (a .index)
-      unfolding above
-      high = ltb-true (leastSum I (owner I s) (price I s)) (priceUpToOne (I .m) (owner I s) (price I s) (a .index)) (a .passes)
+      high = is-above I (owner I s) (price I s) (a .index) (a .passes)
 
       free : (i : ℕ) → i < I .n → reachable I (owner I s) (price I s) i ≡ true → group I s i ≡ 0
-      free = apart S (R .core) (calm-ends S (R .core) C h) h (a .below) high
+      free = apart S (R .core) (chain-ends S (R .core) C h) h (a .below) high
 
       next : (0 < R .top → Since I s (R .top)) → NextRound I (owner I s) (price I s) (group I s) (isEntitled I s) (s .cuts) (price I (afterCut I s)) (group I (afterCut I s)) (isEntitled I (afterCut I s))
       next since =
           let rises : R .top ≤ leastSum I (owner I s) (price I s) =
           by-less 0 (R .top) (λ z. cuts-rise S (R .core) (since z .facts) free h) (λ z. omega arith) in
-          next-round S (R .core) (R .entitled) (calm-ends S (R .core) C h) h (a .below) high (R .bounded) rises (cut-cuts I s)
+          next-round S (R .core) (R .entitled) (chain-ends S (R .core) C h) h (a .below) high (R .bounded) rises (cut-cuts I s)
 
       cut2b : s .stage ≡ 0 → (0 < R .top → Since I s (R .top)) → Steps I s
       unfolding result
       cut2b e since =
-          let N = next since in
-          let number = cut-falls S (N .core) in
-          went (afterCut I s) (stepped I s (cuts2b I s e h (any-intro (above I (owner I s) (price I s)) (a .index) (a .below) (a .passes)))) (cut-reached S N number) number
+          went (afterCut I s) (stepped I s (cuts2b I s e h (any-intro (above I (owner I s) (price I s)) (a .index) (a .below) (a .passes)))) (cut-reached S (next since)) cut-falls
 
       clean2b : (0 < R .top → Since I s (R .top)) → CleanCut I s
       unfolding inNewGroup
@@ -224,9 +209,9 @@ module _ {I : Instance} {s : State} (R : Reached I s) where
   pub steps : Sound I → Steps I s
   steps S = go (R .place)
     where
-      go : Place I s (R .top) → Steps I s
-      go (in2a some low T) =
-          by-test (due2a I (owner I s) (price I s) (group I s) (isEntitled I s) (s .stage)) (move2a S some low T) (pass2a S some low T)
+      go : Place I s (R .top) (R .room) → Steps I s
+      go (in2a some low T fits) =
+          by-test (due2a I (owner I s) (price I s) (group I s) (isEntitled I s) (s .stage)) (move2a S some low T fits) (pass2a S some low T fits)
       go (in2b e since C) =
           by-test (due2b I (owner I s) (price I s)) (move2b S e since C) λ h.
           by-test (anyBelow (I .n) (above I (owner I s) (price I s)))
@@ -246,8 +231,8 @@ module _ {I : Instance} {s : State} (R : Reached I s) where
       not-stop : action I s ≡ stop → CleanCut I s
       not-stop r = let z : _≡_ {A = ℕ} 0 1 = cc in absurd (omega arith)
 
-      go : Place I s (R .top) → CleanCut I s
-      go (in2a some low T) =
+      go : Place I s (R .top) (R .room) → CleanCut I s
+      go (in2a some low T fits) =
           by-test (due2a I (owner I s) (price I s) (group I s) (isEntitled I s) (s .stage))
           (λ h. not-hand (hands2a I s some h (stage-due I (owner I s) (price I s) (group I s) (isEntitled I s) (s .stage) some (R .entitled) h .chore)))
           (λ h. not-pass (passes2a I s some h))

@@ -13,7 +13,7 @@ use Rattle.finite.proofs.Tests.{by-test, clash, and-elim, and-intro, and-rest, 
 use Rattle.finite.proofs.Below.{by-less, by-same}
 use Rattle.finite.proofs.Search.{any-intro, any-elim, any-none, found, first-some}
 use Rattle.finite.proofs.Extremes.{Low, low-attained}
-use Rattle.finite.proofs.Reach.{reach-zero, reach-kept, reach-step, reach-cases, reach-mono, reach-link}
+use Rattle.finite.proofs.Reach.{reach-zero, reach-kept, reach-step, reach-cases, reach-mono, reach-early, reach-link}
 use Rattle.model.specs.Instance.{Instance}
 use Rattle.model.specs.Fairness.{owns}
 use Rattle.model.specs.Prices.{best, priceSum, priceUpToOne}
@@ -72,6 +72,18 @@ module _ (I : Instance) (x p : ℕ → ℕ) where
   pub least-of : (i : ℕ) → priceSum (I .m) x p i ≡ leastSum I x p → ofLeastSum I x p i ≡ true
   unfolding ofLeastSum
   least-of i e = eq-eqb (priceSum (I .m) x p i) (leastSum I x p) e
+
+  pub is-above : (i : ℕ) → above I x p i ≡ true → leastSum I x p < priceUpToOne (I .m) x p i
+  unfolding above
+  is-above i e = ltb-true (leastSum I x p) (priceUpToOne (I .m) x p i) e
+
+  pub not-above : (i : ℕ) → above I x p i ≡ false → priceUpToOne (I .m) x p i ≤ leastSum I x p
+  unfolding above
+  not-above i e = ltb-false (leastSum I x p) (priceUpToOne (I .m) x p i) e
+
+  pub above-is : (i : ℕ) → leastSum I x p < priceUpToOne (I .m) x p i → above I x p i ≡ true
+  unfolding above
+  above-is i l = lt-ltb (leastSum I x p) (priceUpToOne (I .m) x p i) l
 
   -- rings
 
@@ -141,12 +153,12 @@ module _ (I : Instance) (x p : ℕ → ℕ) (some : 0 < I .n) where
 
   -- nobody of least sum is above it
   start-fails : (i : ℕ) → giverAt I x p 0 i ≡ false
-  unfolding atDistance above
+  unfolding atDistance
   start-fails i =
       not-yes _ λ e.
       let both = and-elim (within I x p 0 i) (above I x p i) e in
       let l : priceSum (I .m) x p i ≡ leastSum I x p = of-least I x p i (rw (within-zero I x p i) at (both .0)) in
-      omega (arith, ltb-true (leastSum I x p) (priceUpToOne (I .m) x p i) (both .1), up-le (I .m) x p i)
+      omega (arith, is-above I x p i (both .1), up-le (I .m) x p i)
 
   -- the search's answers, one after the other
   module _ (h : due2b I x p ≡ true) where
@@ -190,16 +202,14 @@ module _ (I : Instance) (x p : ℕ → ℕ) (some : 0 < I .n) where
         (eqb-true (x (chore2b I x p)) (giver2b I x p) (both .0), both .1)
 
     none-nearer : (i : ℕ) → i < I .n → within I x p (ring2b I x p - 1) i ≡ true → priceUpToOne (I .m) x p i ≤ leastSum I x p
-    unfolding above
     none-nearer i hi r =
         let q = in-ring I x p (ring2b I x p - 1) i r in
         let l : q .ring < ring2b I x p = omega (arith, ring-positive) in
         let e = any-none (I .n) (giverAt I x p (q .ring)) (ring-first .before (q .ring) l) i hi in
-        ltb-false (leastSum I x p) (priceUpToOne (I .m) x p i) (and-rest (above I x p i) e (q .held))
+        not-above I x p i (and-rest (above I x p i) e (q .held))
 
   -- 2b never lacks its chore: the search's answers are those of a due move
   pub due-found : due2b I x p ≡ true → Due I x p (ring2b I x p - 1) (giver2b I x p) (receiver2b I x p) (chore2b I x p)
-  unfolding above
   due-found h =
       record {
         distance = omega (arith, ring-first h .below, ring-positive h);
@@ -211,18 +221,17 @@ module _ (I : Instance) (x p : ℕ → ℕ) (some : 0 < I .n) where
         inRing = at-within I x p _ _ (giver-ring h);
         notNearer = distance-said I x p _ _ .0 (giver-ring h) .0;
         near = at-within I x p _ _ (receiver-both h .0);
-        giverAbove = ltb-true _ _ (giver-both h .1);
+        giverAbove = is-above I x p _ (giver-both h .1);
         nobodyNearer = none-nearer h;
       }
 
   -- somebody within a distance who is above the least sum makes a move due
   pub is-due : (t i : ℕ) → t ≤ I .n → i < I .n → within I x p t i ≡ true → leastSum I x p < priceUpToOne (I .m) x p i → due2b I x p ≡ true
-  unfolding due2b ring2b above
+  unfolding due2b ring2b
   is-due t i ht hi r a =
       let q = in-ring I x p t i r in
       let l : q .ring < suc (I .n) = omega arith in
-      let e = lt-ltb (leastSum I x p) (priceUpToOne (I .m) x p i) a in
-      lt-ltb (ring2b I x p) (suc (I .n)) (first-some (ringHas I x p) (q .ring) l (any-intro (giverAt I x p (q .ring)) i hi (and-intro (q .held) e)))
+      lt-ltb (ring2b I x p) (suc (I .n)) (first-some (ringHas I x p) (q .ring) l (any-intro (giverAt I x p (q .ring)) i hi (and-intro (q .held) (above-is I x p i a))))
 
   pub not-due : due2b I x p ≡ false → (i : ℕ) → i < I .n → reachable I x p i ≡ true → priceUpToOne (I .m) x p i ≤ leastSum I x p
   unfolding reachable
@@ -241,12 +250,17 @@ module _ (I : Instance) (x p : ℕ → ℕ) (some : 0 < I .n) where
   reachable-closed i j c hi hj hc o b r =
       reach-link (I .n) (ofLeastSum I x p) (supplies I x p) i j hi hj r (supplies-intro I x p i j c hc o b)
 
+-- the giver's distance is below n
+pub ring-below : {I : Instance} {x p : ℕ → ℕ} {t w u k : ℕ} → Due I x p t w u k → suc t < I .n
+unfolding within
+ring-below {I} {x} {p} {t} {w} d = reach-early (I .n) (ofLeastSum I x p) (supplies I x p) t w (d .giver) (d .inRing) (d .notNearer)
+
 -- a due move of chore k from w to u
 module _ {I : Instance} {x p : ℕ → ℕ} {t w u k : ℕ} (d : Due I x p t w u k) {y : ℕ → ℕ} (v : Moves (I .m) x y k w u) where
   some-agent : 0 < I .n
   some-agent = omega (arith, d .giver)
 
-  pub giver-left : leastSum I x p < priceSum (I .m) y p w
+  giver-left : leastSum I x p < priceSum (I .m) y p w
   giver-left = omega (arith, d .giverAbove, give-leaves v p)
 
   -- no sum comes to be below the least one
@@ -272,7 +286,7 @@ module _ {I : Instance} {x p : ℕ → ℕ} {t w u k : ℕ} (d : Due I x p t w u
       (λ b. least-of I x p i (omega (arith, other-sum v p i a b)))
 
   -- nobody nearer than t wants the chore that moves: the giver would be nearer too
-  wanted-far : (s j : ℕ) → j < I .n → within I x p s j ≡ true → best I p j k ≡ true → t ≤ s
+  pub wanted-far : (s j : ℕ) → j < I .n → within I x p s j ≡ true → best I p j k ≡ true → t ≤ s
   wanted-far s j hj r b =
       by-less s t
       (λ l. let q = within-step I x p s w j hj r (supplies-intro I x p w j k (d .chore) (d .owned) b) in absurd (clash (within-more I x p some-agent l w q) (d .notNearer)))

@@ -23,9 +23,8 @@ use Rattle.algorithm.specs.Kinds.{Sound}
 use Rattle.algorithm.specs.Core.{Core}
 use Rattle.algorithm.specs.Phases.{Began}
 use Rattle.algorithm.proofs.UpToOne.{up-near}
-use Rattle.algorithm.proofs.Best.{best-outside, one-price, none-dearer}
+use Rattle.algorithm.proofs.Best.{free-uncut, best-outside, one-price, none-dearer}
 use Rattle.algorithm.proofs.Rings.{least-of, within-zero, least-low, within-more, not-due, reachable-closed}
-use Rattle.algorithm.proofs.Calm.{free-uncut}
 
 -- what the agents that pass hold together is what the chores that they own come to
 held-by : (n m : ℕ) (x p : ℕ → ℕ) (t : ℕ → Bool) → ((c : ℕ) → c < m → x c < n) → sumWhere n t (priceSum m x p) ≡ sumWhere m (λ c. t (x c)) p

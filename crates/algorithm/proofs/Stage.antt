@@ -6,14 +6,14 @@ use mathlib.Core.Logic.{_⊎_, inl, inr}
 use mathlib.Core.Path.{_≡_, refl, sym, ap, _∙_}
 use native.Mathlib.Nat.{le-refl, le-of-eq}
 use native.Mathlib.Omega.{arith}
-use lib.Dec.{eqb, ltb}
-use borrow.Author.Tests.{ltb-true, ltb-false, lt-ltb, eqb-true, eq-eqb, ne-eqb, not-true}
+use lib.Dec.{leb, eqb, ltb}
+use borrow.Author.Tests.{ltb-true, ltb-false, lt-ltb, le-leb, lt-leb, eqb-true, eq-eqb, not-true}
 use Rattle.finite.specs.Moves.{Moves}
 use Rattle.finite.proofs.Tests.{cond-true, and-elim, and-intro, and-rest, not-no, not-on, cond-le}
 use Rattle.finite.proofs.Below.{by-less, by-same}
 use Rattle.finite.proofs.Search.{found, first-some}
 use Rattle.finite.proofs.Where.{where-le}
-use Rattle.finite.proofs.Counts.{count-le, count-change}
+use Rattle.finite.proofs.Counts.{count-change}
 use Rattle.finite.proofs.Chosen.{Chosen, chosen-found, smaller, greater, smallest-le, greatest-ge}
 use Rattle.finite.proofs.Running.{smallest-some, greatest-some}
 use Rattle.model.specs.Instance.{Instance}
@@ -23,8 +23,9 @@ use Rattle.model.specs.Step2a.{giver2a, receiver2a, due2a, chore2a}
 use Rattle.algorithm.specs.Kinds.{Sound}
 use Rattle.algorithm.specs.Core.{Core}
 use Rattle.algorithm.specs.Phases.{cutPrice, Entitled, Stage, Began, Quiet}
-use Rattle.algorithm.specs.Stages.{DueA, ownedBy}
-use Rattle.algorithm.proofs.UpToOne.{up-top, up-same, give-sum, give-up, take-sum, take-top, other-sum, other-up}
+use Rattle.algorithm.specs.Chain.{held}
+use Rattle.algorithm.specs.Stages.{DueA}
+use Rattle.algorithm.proofs.UpToOne.{up-top, up-same, up-others, give-sum, take-sum, take-top, other-sum}
 use Rattle.algorithm.proofs.Best.{uncut-best, one-price, none-dearer, core-moved}
 use Rattle.algorithm.proofs.Rings.{least-low}
 
@@ -132,10 +133,6 @@ module _ {I : Instance} {x p group : ℕ → ℕ} {cut : ℕ → Bool} (S : Soun
   receiver-after : priceUpToOne (I .m) y p j ≡ priceSum (I .m) x p j
   receiver-after = take-top v p (λ d l o. moved-top d l)
 
-  -- price-one grows for the receiver alone
-  up-after : (k : ℕ) → (k ≡ j → ⊥) → priceUpToOne (I .m) y p k ≤ priceUpToOne (I .m) x p k
-  up-after k ne = by-same k i (λ e. rw e (give-up v p)) (λ n. le-of-eq (other-up v p k n ne))
-
   -- the sum falls for the giver alone
   sum-after : (k : ℕ) → (k ≡ i → ⊥) → priceSum (I .m) x p k ≤ priceSum (I .m) y p k
   sum-after k ne =
@@ -160,8 +157,8 @@ module _ {I : Instance} {x p group : ℕ → ℕ} {cut : ℕ → Bool} (S : Soun
       (λ el. rw (ek, el) (omega (arith, receiver-after, giver-after)))
       (λ nl. rw ek (omega (arith, receiver-fair l hl gl, sum-after l nl))))
       (λ nk. by-same l i
-      (λ el. rw el (omega (arith, up-after k nk, giver-fair k hk gk (reaches r el))))
-      (λ nl. omega (arith, up-after k nk, T .fair k l hk hl gk gl r, sum-after l nl)))
+      (λ el. rw el (omega (arith, up-others v p k nk, giver-fair k hk gk (reaches r el))))
+      (λ nl. omega (arith, up-others v p k nk, T .fair k l hk hl gk gl r, sum-after l nl)))
     where
       reaches : (g < group k) ⊎ (group l ≤ group k) → l ≡ i → g ≤ group k
       reaches (inl a) e = omega arith
@@ -172,7 +169,7 @@ module _ {I : Instance} {x p group : ℕ → ℕ} {cut : ℕ → Bool} (S : Soun
       record {
         someGroup = T .someGroup;
         fair = fair-after;
-        low = λ k h gk. by-same k j (λ e. rw e (omega (arith, receiver-after, T .low i (D .giver) (omega arith)))) (λ n. omega (arith, up-after k n, T .low k h gk));
+        low = λ k h gk. by-same k j (λ e. rw e (omega (arith, receiver-after, T .low i (D .giver) (omega arith)))) (λ n. omega (arith, up-others v p k n, T .low k h gk));
         rest = λ k h gk. omega (arith, T .rest k h gk, sum-after k (λ e. omega (arith, ap group e)));
       }
 
@@ -180,17 +177,13 @@ module _ {I : Instance} {x p group : ℕ → ℕ} {cut : ℕ → Bool} (S : Soun
   stage-core =
       core-moved S K v (D .receiver) (uncut-best S K j c (D .receiver) (omega arith) (D .chore) (D .uncut))
 
-pub owned-le : (I : Instance) (x group : ℕ → ℕ) (g : ℕ) → ownedBy I x group g ≤ I .m
-unfolding ownedBy
-owned-le I x group g = count-le (I .m) _
-
--- the chore leaves the group at work
-pub stage-falls : {I : Instance} {x p group : ℕ → ℕ} {cut : ℕ → Bool} {g i j c : ℕ} {y : ℕ → ℕ} → DueA I x p group cut g i j c → Moves (I .m) x y c i j → ownedBy I y group g < ownedBy I x group g
-unfolding ownedBy
+-- the chore leaves the groups up to the one at work
+pub stage-falls : {I : Instance} {x p group : ℕ → ℕ} {cut : ℕ → Bool} {g i j c : ℕ} {y : ℕ → ℕ} → DueA I x p group cut g i j c → Moves (I .m) x y c i j → held I y (λ a. leb (group a) g) < held I x (λ a. leb (group a) g)
+unfolding held
 stage-falls {x = x} {group = group} {g = g} {c = c} {y = y} D v =
-    let after : ℕ → Bool = λ d. eqb (group (y d)) g in
-    let before : ℕ → Bool = λ d. eqb (group (x d)) g in
-    omega (arith, count-change after before c (D .chore) (ne-eqb _ g (λ e. omega (arith, ap group (v .target)))) (eq-eqb _ g (ap group (D .owned) ∙ D .atWork)) (λ d l n. ap (λ o. eqb (group o) g) (sym (v .rest d l n))))
+    let after : ℕ → Bool = λ d. leb (group (y d)) g in
+    let before : ℕ → Bool = λ d. leb (group (x d)) g in
+    omega (arith, count-change after before c (D .chore) (lt-leb _ g (omega (arith, ap group (v .target)))) (le-leb _ g (omega (arith, ap group (D .owned)))) (λ d l n. ap (λ o. leb (group o) g) (sym (v .rest d l n))))
 
 -- with no move due, a member of group g against later groups
 none-due : (I : Instance) (x p group : ℕ → ℕ) (cut : ℕ → Bool) (g : ℕ) → due2a I x p group cut g ≡ false → (k l : ℕ) → k < I .n → l < I .n → group k ≡ g → g < group l → priceUpToOne (I .m) x p k ≤ priceSum (I .m) x p l

@@ -12,17 +12,17 @@ use Rattle.model.specs.Instance.{Instance, ownerOf}
 use Rattle.model.specs.Sheet.{asMarked, asRead}
 use Rattle.model.specs.Algorithm.{State, Ends}
 use Rattle.model.specs.Refusals.{sheetRefusal}
-use Rattle.model.specs.Promises.{Demand3}
+use Rattle.model.specs.Promises.{Demand3, FewMoves}
 use Rattle.model.proofs.Unique.{unique}
 use Rattle.model.proofs.Allocations.{picks-allocation}
 use Rattle.welfare.proofs.AcceptedSheet.{accepted-fair}
 use Rattle.algorithm.specs.Kinds.{dear, level, kindPrice}
 use Rattle.algorithm.specs.Core.{Core}
-use Rattle.algorithm.specs.Reached.{moveTop, Reached}
+use Rattle.algorithm.specs.Reached.{Reached}
 use Rattle.algorithm.specs.Theorem.{Theorem}
 use Rattle.algorithm.proofs.Reading.{sheet-sound}
 use Rattle.algorithm.proofs.End.{check-accepted}
-use Rattle.algorithm.proofs.Machine.{fewer-cuts, clean-cut}
+use Rattle.algorithm.proofs.Machine.{fewer-cuts, moves-bound, clean-cut}
 use Rattle.algorithm.proofs.Begin.{opening-reached}
 use Rattle.algorithm.proofs.Ending.{run-ends, reached, never-lacking, done-reached, done-even}
 
@@ -45,8 +45,12 @@ three {I} {cut} K c h =
     (λ q. by-test (dear I c) (λ d. inr (inl (rw (q, d) at e))) (λ d. inl (rw (q, d) at e)))
     (λ q. by-test (dear I c) (λ d. inr (inr (rw (q, d) at e))) (λ d. inr (inl (rw (q, d) at e))))
 
+few-moves : {s : List ℕ} {x : State} → Reached (asRead s) x → FewMoves s x
+unfolding asRead
+few-moves R = record { byRounds = omega (arith, R .budget); inAll = omega (arith, moves-bound R) }
+
 pub theorem : (s : List ℕ) → sheetRefusal s ≡ 0 → Theorem s
-unfolding asRead asMarked moveTop
+unfolding asRead asMarked
 theorem s valid =
     let S = sheet-sound s valid in
     let O = opening-reached S in
@@ -70,12 +74,18 @@ theorem s valid =
           };
       kinds = three (R .core);
       clean = λ k y e q. clean-cut (reached S O k y e) S q;
-      moves = omega (arith, R .budget);
+      few = few-moves R;
     }
 
--- the result is unique, so whatever run ends, demand 3 holds of its state
-pub demand3-of : (s : List ℕ) → sheetRefusal s ≡ 0 → (x : State) → Ends (asRead s) x → Demand3 s x
-demand3-of s valid x E =
+-- the result is unique, so whatever run ends, its state is the theorem's
+same-final : (s : List ℕ) (valid : sheetRefusal s ≡ 0) (x : State) → Ends (asRead s) x → theorem s valid .final ≡ x
+same-final s valid x E =
     let T = theorem s valid in
     let F = T .demand3 .ends in
-    subst (Demand3 s) (unique (asRead s) (F .steps) (E .steps) (T .final) x (F .ends) (E .ends)) (T .demand3)
+    unique (asRead s) (F .steps) (E .steps) (T .final) x (F .ends) (E .ends)
+
+pub demand3-of : (s : List ℕ) → sheetRefusal s ≡ 0 → (x : State) → Ends (asRead s) x → Demand3 s x
+demand3-of s valid x E = subst (Demand3 s) (same-final s valid x E) (theorem s valid .demand3)
+
+pub few-of : (s : List ℕ) → sheetRefusal s ≡ 0 → (x : State) → Ends (asRead s) x → FewMoves s x
+few-of s valid x E = subst (FewMoves s) (same-final s valid x E) (theorem s valid .few)

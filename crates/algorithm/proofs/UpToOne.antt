@@ -1,8 +1,8 @@
 -- Price sums and price-one: what is left of `priceUpToOne` once these laws stand, so that no other file unfolds it.
 -- Assumes nothing.
-use Prim.Native.Nat.{ℕ, _+_, _*_, _≤_, _<_}
+use Prim.Native.Nat.{ℕ, _+_, _-_, _*_, _≤_, _<_}
 use mathlib.Core.Path.{_≡_, refl, sym, ap, _∙_}
-use native.Mathlib.Nat.{le-refl}
+use native.Mathlib.Nat.{le-refl, le-of-eq}
 use native.Mathlib.Omega.{arith}
 use lib.Dec.{eqb}
 use borrow.Author.Tests.{eq-eqb, eqb-true}
@@ -14,6 +14,7 @@ use Rattle.finite.proofs.Extremes.{peak-above, peak-at-most, peak-cong, peak-sc
 use Rattle.finite.proofs.Moves.{moves-same, moves-from, moves-to, moves-other}
 use Rattle.model.specs.Fairness.{owns, total}
 use Rattle.model.specs.Prices.{priceSum, dearest, priceUpToOne}
+use Rattle.algorithm.specs.Chain.{Swaps}
 
 module _ (m : ℕ) (x p : ℕ → ℕ) (i : ℕ) where
   pub dearest-above : (c : ℕ) → c < m → x c ≡ i → p c ≤ dearest m x p i
@@ -125,3 +126,19 @@ module _ {m : ℕ} {x y : ℕ → ℕ} {k w u : ℕ} (v : Moves m x y k w u) (p 
 
   pub other-up : (i : ℕ) → (i ≡ w → ⊥) → (i ≡ u → ⊥) → priceUpToOne m y p i ≡ priceUpToOne m x p i
   other-up i a b = omega (arith, up-dearest m x p i, up-dearest m y p i, other-sum i a b, other-dearest i a b)
+
+  -- price-one grows for the receiver alone
+  pub up-others : (i : ℕ) → (i ≡ u → ⊥) → priceUpToOne m y p i ≤ priceUpToOne m x p i
+  up-others i ne = by-same i w (λ e. rw e give-up) (λ a. le-of-eq (other-up i a ne))
+
+-- the relief lemma: whoever gets a chore and then gives away one that is no cheaper has no greater price-one than before
+pub relief : {m : ℕ} {x y z p : ℕ → ℕ} {k w u e r : ℕ} → Swaps m x y z p k w u e r → priceUpToOne m z p u ≤ priceUpToOne m x p u
+relief {m} {x} {y} {z} {p} {k} {w} {u} {e} {r} s =
+    omega (arith, up-dearest m x p u, up-dearest m z p u, take-sum (s .gets) p, give-sum (s .gives) p, s .noCheaper, dearest-under m x p u (dearest m z p u + (p e - p k)) kept)
+  where
+    kept : (c : ℕ) → c < m → x c ≡ u → p c ≤ dearest m z p u + (p e - p k)
+    kept c l o =
+        let old : c ≡ k → ⊥ = λ q. s .gets .apart (sym (s .gets .source) ∙ ap x (sym q) ∙ o) in
+        by-same c e
+        (λ q. let new : k ≡ e → ⊥ = λ j. old (q ∙ sym j) in rw q (omega (arith, s .noCheaper, dearest-above m z p u k (s .gets .below) (sym (s .gives .rest k (s .gets .below) new) ∙ s .gets .target))))
+        (λ n. omega (arith, dearest-above m z p u c l (sym (s .gives .rest c l n) ∙ sym (s .gets .rest c l old) ∙ o)))

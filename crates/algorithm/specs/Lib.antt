@@ -2,9 +2,9 @@ pub mod Kinds
 pub mod Core
 pub mod Due
 pub mod Phases
+pub mod Chain
 pub mod Stages
 pub mod Cuts
-pub mod Measure
 pub mod Reached
 pub mod Opened
 pub mod Theorem

@@ -1,13 +1,12 @@
--- The further invariants of a round: of the cut chores, of step 2a at a stage, and of step 2b.
+-- The further invariants of a round: of the cut chores, of step 2a at a stage, and of step 2b between its chains of moves.
 use Prim.Native.Nat.{ℕ, _*_, _<_, _≤_}
-use mathlib.Core.Bool.{Bool, true, false, cond}
+use mathlib.Core.Bool.{Bool, cond}
 use mathlib.Core.Logic.{_⊎_}
 use mathlib.Core.Path.{_≡_}
 use Rattle.finite.specs.Search.{Hit}
-use Rattle.finite.specs.Moves.{Moves}
 use Rattle.model.specs.Instance.{Instance}
 use Rattle.model.specs.Prices.{priceSum, priceUpToOne}
-use Rattle.model.specs.Step2b.{leastSum, within}
+use Rattle.model.specs.Step2b.{leastSum}
 use Rattle.algorithm.specs.Core.{Core}
 use lib.Dec.{ltb}
 
@@ -41,21 +40,3 @@ module _ (I : Instance) (p group : ℕ → ℕ) (cut : ℕ → Bool) where
   -- no member of a group is above the least sum
   pub record Quiet (x : ℕ → ℕ) : Type 0 where
     pub quiet : (i : ℕ) → i < I .n → 0 < group i → priceUpToOne (I .m) x p i ≤ leastSum I x p
-
-  -- one member u of a group, at distance t or less, is above the least sum, and gives next
-  pub record Loaded (x : ℕ → ℕ) (u t : ℕ) : Type 0 where
-    pub distance : t < I .n
-    pub member : u < I .n
-    pub near : within I x p t u ≡ true
-    pub loaded : leastSum I x p < priceUpToOne (I .m) x p u
-    pub others : (i : ℕ) → i < I .n → 0 < group i → (i ≡ u → ⊥) → priceUpToOne (I .m) x p i ≤ leastSum I x p
-    -- nobody at a smaller distance is in a group, or above the least sum; and u alone is above it at distance t
-    pub freeNearer : (s i : ℕ) → s < t → i < I .n → within I x p s i ≡ true → group i ≡ 0
-    pub quietNearer : (s i : ℕ) → s < t → i < I .n → within I x p s i ≡ true → priceUpToOne (I .m) x p i ≤ leastSum I x p
-    pub alone : (i : ℕ) → i < I .n → within I x p t i ≡ true → leastSum I x p < priceUpToOne (I .m) x p i → i ≡ u
-    -- without any one uncut chore u is not above it
-    pub relieved : (y : ℕ → ℕ) (k v : ℕ) → Moves (I .m) x y k u v → cut k ≡ false → priceUpToOne (I .m) y p u ≤ leastSum I x p
-
-  pub data Calm (x : ℕ → ℕ) : Type 0 where
-    calm : Quiet x → Calm x
-    one-loaded : (u t : ℕ) → Loaded x u t → Calm x

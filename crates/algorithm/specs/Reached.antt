@@ -1,36 +1,20 @@
 -- What holds of every state that a run of Algorithm 1 reaches, and the number that falls with each of its steps.
 use Prim.Native.Nat.{ℕ, _+_, _*_, _-_, _≤_, _<_}
-use mathlib.Core.Bool.{cond}
 use mathlib.Core.Path.{_≡_}
-use lib.Dec.{eqb, ltb}
+use lib.Dec.{leb, ltb}
 use lib.ListN.{length, getD}
 use Rattle.finite.specs.Sums.{countTo}
 use Rattle.model.specs.Instance.{Instance}
 use Rattle.model.specs.Algorithm.{State, owner, price, group, isEntitled}
+use Rattle.model.specs.MostMoves.{roundMoves, mostMoves}
 use Rattle.algorithm.specs.Core.{Core}
-use Rattle.algorithm.specs.Phases.{Entitled, Stage, Began, Calm}
-use Rattle.algorithm.specs.Stages.{ownedBy}
-use Rattle.algorithm.specs.Measure.{measure2b, measureTop}
-
--- more than the number of any place in a round
-unfoldable pub roundTop : Instance → ℕ
-roundTop I = measureTop I + (I .n + 1) * (I .m + 1)
-
--- a bound for the moves of a run
-unfoldable pub moveTop : Instance → ℕ
-moveTop I = I .n * roundTop I + measureTop I
+use Rattle.algorithm.specs.Phases.{Entitled, Stage, Began}
+use Rattle.algorithm.specs.Chain.{chainTop, held, Chain}
 
 module _ (I : Instance) (s : State) where
-  -- the number of a place in its round: in 2b the measure of 2b, in 2a more than that
-  unfoldable pub placeNumber : ℕ
-  placeNumber =
-      cond (eqb (s .stage) 0)
-      (measure2b I (owner I s) (price I s))
-      (measureTop I + (s .stage * (I .m + 1) + ownedBy I (owner I s) (group I s) (s .stage)))
-
-  -- the number that falls with each step
+  -- the number that falls with each step: a move leaves fewer moves, a cut fewer rounds, and a pass of 2a fewer groups
   unfoldable pub stepNumber : ℕ
-  stepNumber = (I .n - s .cuts) * roundTop I + placeNumber
+  stepNumber = (mostMoves (I .n) (I .m) - s .moves) + ((I .n - s .cuts) * (I .n + 1) + s .stage)
 
   -- the lists have their lengths, and owners are numbers from 1 on
   pub record Shaped : Type 0 where
@@ -45,10 +29,14 @@ module _ (I : Instance) (s : State) where
     pub began : ℕ → ℕ
     pub facts : Began I (price I s) (group I s) (isEntitled I s) began top
 
-  -- the invariant of the place
-  pub data Place (top : ℕ) : Type 0 where
-    in2a : 0 < s .stage → s .stage ≤ I .n → Stage I (price I s) (group I s) (isEntitled I s) (owner I s) top (s .stage) → Place top
-    in2b : s .stage ≡ 0 → (0 < top → Since top) → Calm I (price I s) (group I s) (isEntitled I s) (owner I s) → Place top
+  -- The invariant of the place. `room` is enough for the moves left in this round; in 2a a chore moves to a group that is done, so at most once.
+  pub data Place (top room : ℕ) : Type 0 where
+    in2a :
+        0 < s .stage → s .stage ≤ I .n
+        → Stage I (price I s) (group I s) (isEntitled I s) (owner I s) top (s .stage)
+        → chainTop I * held I (owner I s) (λ i. leb (group I s i) (s .stage)) ≤ room
+        → Place top room
+    in2b : s .stage ≡ 0 → (0 < top → Since top) → Chain I (price I s) (group I s) (isEntitled I s) (owner I s) room → Place top room
 
   pub record Reached : Type 0 where
     pub shaped : Shaped
@@ -59,5 +47,6 @@ module _ (I : Instance) (s : State) where
     pub bounded : (i : ℕ) → i < I .n → group I s i ≤ s .cuts
     pub top : ℕ
     pub entitled : Entitled I (price I s) (group I s) (isEntitled I s) (owner I s) top
-    pub place : Place top
-    pub budget : s .moves + stepNumber ≤ moveTop I
+    pub room : ℕ
+    pub place : Place top room
+    pub budget : s .moves + room ≤ (s .cuts + 1) * roundMoves (I .n) (I .m)

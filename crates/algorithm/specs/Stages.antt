@@ -1,9 +1,7 @@
--- Step 2a: the facts of a due move, whatever search found it, and the number that falls with each.
+-- Step 2a: the facts of a due move, whatever search found it.
 use Prim.Native.Nat.{ℕ, _<_, _≤_}
 use mathlib.Core.Bool.{Bool, false}
 use mathlib.Core.Path.{_≡_}
-use lib.Dec.{eqb}
-use Rattle.finite.specs.Sums.{countTo}
 use Rattle.model.specs.Instance.{Instance}
 use Rattle.model.specs.Prices.{priceSum, priceUpToOne}
 
@@ -20,7 +18,3 @@ pub record DueA (I : Instance) (x p group : ℕ → ℕ) (cut : ℕ → Bool) (g
   pub chore : c < I .m
   pub owned : x c ≡ i
   pub uncut : cut c ≡ false
-
--- how many chores the members of group g own
-unfoldable pub ownedBy : Instance → (ℕ → ℕ) → (ℕ → ℕ) → ℕ → ℕ
-ownedBy I x group g = countTo (I .m) (λ c. eqb (group (x c)) g)

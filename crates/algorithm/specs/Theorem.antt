@@ -1,5 +1,5 @@
 -- What holds of every sheet that breaks no rule, whatever its marks.
-use Prim.Native.Nat.{ℕ, _*_, _≤_, _<_}
+use Prim.Native.Nat.{ℕ, _*_, _<_}
 use mathlib.Core.Bool.{true}
 use mathlib.Core.List.{List}
 use mathlib.Core.Logic.{_⊎_}
@@ -7,8 +7,7 @@ use mathlib.Core.Path.{_≡_}
 use Rattle.model.specs.Instance.{Instance}
 use Rattle.model.specs.Sheet.{choresOf, easyWeight, difficultWeight, asRead}
 use Rattle.model.specs.Algorithm.{State, busy, cut, owner, price, group, action, inNewGroup, afterCut, after}
-use Rattle.model.specs.Promises.{Demand3}
-use Rattle.algorithm.specs.Reached.{moveTop}
+use Rattle.model.specs.Promises.{Demand3, FewMoves}
 
 -- A cut from the state s: nobody is cut who was cut before, and each price divides exactly.
 pub record CleanCut (I : Instance) (s : State) : Type 0 where
@@ -27,5 +26,5 @@ pub record Theorem (s : List ℕ) : Type 0 where
       ⊎ (price (asRead s) final c ≡ difficultWeight s * difficultWeight s))
   -- each cut of the run is a clean one
   pub clean : (k : ℕ) (x : State) → after (asRead s) k ≡ busy x → action (asRead s) x ≡ cut → CleanCut (asRead s) x
-  -- the moves stay below a bound
-  pub moves : final .moves ≤ moveTop (asRead s)
+  -- its moves are few, whatever the weights
+  pub few : FewMoves s final

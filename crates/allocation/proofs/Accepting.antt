@@ -15,7 +15,7 @@ use Rattle.model.specs.Promises.{Allocated}
 use Rattle.sheet.specs.Valid.{Valid}
 use Rattle.sheet.proofs.OrElse.{or-else-zero}
 use Rattle.sheet.proofs.Refusal.{valid, lent-room}
-use Rattle.algorithm.proofs.Theorem.{demand3-of}
+use Rattle.algorithm.proofs.Theorem.{demand3-of, few-of}
 use Rattle.steps.specs.Turns.{stateOf}
 use Rattle.allocation.specs.Shared.{Shared}
 use Rattle.allocation.proofs.Running.{ended-shaped}
@@ -62,6 +62,7 @@ module _ {s owners prices scratch : List ℕ} where
             record {
               final = stateOf x p (R .groups) (R .entitled) _ _ (R .ended .stage);
               demand3 = demand3-of s (fine .unbroken) _ (R .ended .ends);
+              few = few-of s (fine .unbroken) _ (R .ended .ends);
               answer = refl;
               ownersWritten = front x _ (shape .owners);
               ownersKept = back x _ (shape .owners) ∙ ap (λ i. drop i owners) from;

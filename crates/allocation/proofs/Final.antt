@@ -1,6 +1,6 @@
 -- Laws of the state in which the share-out of a sheet ends.
 -- Assumes nothing.
-use Prim.Native.Nat.{ℕ, _^_, _<_}
+use Prim.Native.Nat.{ℕ, _≤_, _<_}
 use mathlib.Core.Bool.{Bool, true, false}
 use mathlib.Core.List.{List}
 use mathlib.Core.Path.{_≡_, refl}
@@ -12,12 +12,13 @@ use Rattle.model.specs.Limits.{maxAgents}
 use Rattle.model.specs.Sheet.{choresOf, asRead}
 use Rattle.model.specs.Algorithm.{State}
 use Rattle.model.specs.Refusals.{sheetRefusal}
-use Rattle.model.specs.Promises.{Demand3}
+use Rattle.model.specs.Promises.{Demand3, FewMoves}
+use Rattle.model.proofs.MostMoves.{most-at-4000}
 use Rattle.sheet.proofs.Refusal.{valid}
 use Rattle.algorithm.specs.Theorem.{Theorem}
 use Rattle.algorithm.proofs.Theorem.{theorem}
 use Rattle.allocation.specs.Final.{accepts, finalBy, finalOf}
-use Rattle.allocation.proofs.Running.{move-top-small, ended-shaped}
+use Rattle.allocation.proofs.Running.{ended-shaped}
 
 module _ (s : List ℕ) where
   pub accept : sheetRefusal s ≡ 0 → accepts s ≡ true
@@ -54,12 +55,13 @@ module _ (s : List ℕ) where
     unfolding asRead
     prices-long = ended-shaped (valid s z) (final-demand3 .ends) .prices
 
-    pub few-moves : finalOf s .moves < 2 ^ 60
-    unfolding asRead
+    pub final-few : FewMoves s (finalOf s)
+    final-few = final-theorem (FewMoves s) (λ T. T .few)
+
+    pub few-moves : finalOf s .moves ≤ 3968000
     few-moves =
         let v = valid s z in
-        final-theorem (λ x. x .moves < 2 ^ 60)
-        (λ T. omega (arith, T .moves, move-top-small (asRead s) (v .agentsFit) (omega (arith, v .choresFit)) (v .weightFits)))
+        omega (arith, final-few .inAll, most-at-4000 (v .agentsFit) (omega (arith, v .choresFit)))
 
     pub few-cuts : finalOf s .cuts < maxAgents
     few-cuts = omega (arith, final-demand3 .cuts, valid s z .agentsFit)

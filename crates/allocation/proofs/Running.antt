@@ -1,39 +1,24 @@
 -- The loop's invariant: where the run is, that it goes on from there, and that its counters fit.
 -- Assumes nothing.
-use Prim.Native.Nat.{ℕ, suc, _+_, _*_, _^_, _≤_, _<_}
+use Prim.Native.Nat.{ℕ, suc, _≤_, _<_}
 use mathlib.Core.List.{List}
 use mathlib.Core.Path.{_≡_, refl, ap, _∙_}
-use native.Mathlib.Nat.{mul-le-mul}
 use native.Mathlib.Omega.{arith}
 use lib.ListN.{length}
-use Rattle.model.specs.Limits.{maxAgents, maxWeight}
-use Rattle.model.specs.Instance.{Instance}
+use Rattle.model.specs.Limits.{maxAgents}
 use Rattle.model.specs.Sheet.{asRead}
 use Rattle.model.specs.Algorithm.{State, busy, done, step, next, after, Ends}
+use Rattle.model.proofs.MostMoves.{most-at-4000}
 use Rattle.sheet.specs.Valid.{Valid}
-use Rattle.algorithm.specs.Measure.{measureTop}
-use Rattle.algorithm.specs.Reached.{roundTop, moveTop, stepNumber, Shaped, Reached}
+use Rattle.algorithm.specs.Reached.{stepNumber, Shaped, Reached}
 use Rattle.algorithm.proofs.Reading.{read-sound}
-use Rattle.algorithm.proofs.Measure.{measureTop-small}
 use Rattle.algorithm.proofs.Actions.{passing}
-use Rattle.algorithm.proofs.Machine.{fewer-cuts}
+use Rattle.algorithm.proofs.Machine.{fewer-cuts, moves-bound}
 use Rattle.algorithm.proofs.Begin.{opening-reached}
 use Rattle.algorithm.proofs.Ending.{reached, step-falls, done-reached}
 use Rattle.steps.specs.Turns.{stateOf, Turning}
 use Rattle.allocation.specs.Runs.{Running, Kit}
 use Rattle.steps.proofs.Ready.{reached-ready}
-
--- the bound for the moves of a run, in numbers
-pub move-top-small : (I : Instance) → I .n ≤ maxAgents → I .m ≤ 4000 → I .b ≤ maxWeight → moveTop I < 2 ^ 60
-unfolding moveTop roundTop
-move-top-small I hn hm hb =
-    let small = measureTop-small I hn hm hb in
-    let n-small : I .n + 1 ≤ maxAgents + 1 = omega arith in
-    let m-small : I .m + 1 ≤ 4001 = omega arith in
-    let cells : (I .n + 1) * (I .m + 1) ≤ (maxAgents + 1) * 4001 = mul-le-mul n-small m-small in
-    let round : measureTop I + (I .n + 1) * (I .m + 1) ≤ 2 ^ 54 + (maxAgents + 1) * 4001 = omega (arith, small, cells) in
-    let rounds : I .n * (measureTop I + (I .n + 1) * (I .m + 1)) ≤ maxAgents * (2 ^ 54 + (maxAgents + 1) * 4001) = mul-le-mul hn round in
-    omega (arith, small, rounds)
 
 module _ {s : List ℕ} (v : Valid s) {owners prices groups entitled : List ℕ} {moves cuts stage : ℕ} (R : Running s owners prices groups entitled moves cuts stage) where
   pub state-reached : Reached (asRead s) (stateOf owners prices groups entitled moves cuts stage)
@@ -43,10 +28,9 @@ module _ {s : List ℕ} (v : Valid s) {owners prices groups entitled : List ℕ}
   turning k =
       record { ready = reached-ready v state-reached (k .liking) (k .sumsSized) (k .upsSized); moves = moves; reached = state-reached }
 
-  pub moves-fit : moves < 2 ^ 60
+  pub moves-fit : moves ≤ 3968000
   unfolding asRead
-  moves-fit =
-      omega (arith, state-reached .budget, move-top-small (asRead s) (v .agentsFit) (omega (arith, v .choresFit)) (v .weightFits))
+  moves-fit = omega (arith, moves-bound state-reached, most-at-4000 (v .agentsFit) (omega (arith, v .choresFit)))
 
   pub cuts-fit : cuts < maxAgents
   unfolding asRead

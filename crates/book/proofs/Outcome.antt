@@ -43,6 +43,8 @@ module _ (book owners prices scratch : List ℕ) {number : ℕ} (judged : number
             record {
               finals = S .finals;
               demand3 = S .demand3;
+              few = S .few;
+              fewInAll = S .fewInAll;
               refusal = S .refusal;
               count = S .count;
               answers = S .answers;

@@ -1,17 +1,18 @@
 -- Laws of the loop's invariant over the sheets of a book: before any sheet, from sheet to sheet, and at the end.
 -- Assumes nothing.
-use Prim.Native.Nat.{ℕ, _+_, _^_, _≤_, _<_, zero-le}
+use Prim.Native.Nat.{ℕ, _+_, _≤_, _<_, zero-le}
 use mathlib.Core.Bool.{cond}
 use mathlib.Core.List.{List}
 use mathlib.Core.Path.{_≡_, refl, sym, ap, _∙_}
 use native.Mathlib.Nat.{le-of-lt}
 use native.Mathlib.Omega.{arith}
-use lib.Dec.{ltb}
+use lib.Dec.{eqb, ltb}
 use lib.ListN.{length, set, length-set}
 use borrow.Author.Tests.{lt-ltb, le-ltb, eqb-true}
-use Rattle.finite.proofs.Tests.{by-cond}
+use Rattle.finite.specs.Sums.{sumTo}
+use Rattle.finite.proofs.Tests.{by-test, by-cond}
 use Rattle.finite.proofs.Below.{by-less, by-same}
-use Rattle.finite.proofs.Sums.{sum-zero, sum-next, sum-at-most}
+use Rattle.finite.proofs.Sums.{sum-zero, sum-next, sum-mono, sum-at-most}
 use Rattle.model.specs.declared.Tally.{Tally}
 use Rattle.model.specs.declared.ShareOut.{ShareOut}
 use Rattle.model.specs.declared.SheetEntry.{SheetEntry}
@@ -20,11 +21,11 @@ use Rattle.model.specs.Contents.{sheetCount, sheetOf}
 use Rattle.model.specs.Algorithm.{State}
 use Rattle.model.specs.Refusals.{sheetRefusal}
 use Rattle.model.specs.Replies.{absent, sheetReply, replyAt}
-use Rattle.model.specs.Book.{ownRefusal, takesSheet, entriesOf, firstEntry, sheetAnswer, longList, tallyOf}
+use Rattle.model.specs.Book.{ownRefusal, takesSheet, entriesOf, firstEntry, sheetAnswer, longList, tallyOf, mostInBook}
 use Rattle.model.specs.Promises.{entryAt, BookSharedOut}
 use Rattle.sheet.proofs.Refusal.{valid}
 use Rattle.allocation.specs.Final.{accepts, finalOf}
-use Rattle.allocation.proofs.Final.{accepted, final-demand3, owners-long, prices-long, few-moves, few-cuts}
+use Rattle.allocation.proofs.Final.{accepted, final-demand3, final-few, owners-long, prices-long, few-moves, few-cuts}
 use Rattle.tally.specs.Counting.{movesIn, cutsIn, Fitting, Counted}
 use Rattle.book.specs.Said.{placed}
 use Rattle.book.specs.Finals.{finalsOf, answerOf}
@@ -39,10 +40,19 @@ one-more {j} i ne =
     by-less i j (λ l. rw (lt-ltb i j l, lt-ltb i (j + 1) (omega arith))) (λ l. rw (le-ltb i j l, le-ltb i (j + 1) (omega arith)))
 
 module _ (book : List ℕ) where
-  counts-few : (counted : State → ℕ) (top : ℕ) → ((s : List ℕ) → sheetRefusal s ≡ 0 → counted (finalOf s) < top) → 0 < top → (i : ℕ) → counts book counted i < top
+  counts-few : (counted : State → ℕ) (top : ℕ) → ((s : List ℕ) → sheetRefusal s ≡ 0 → counted (finalOf s) ≤ top) → (i : ℕ) → counts book counted i ≤ top
   unfolding counts finalsOf
-  counts-few counted top few some i =
-      by-cond (λ v. v < top) (accepts (sheetOf book i)) (counted (finalOf (sheetOf book i))) 0 (λ e. few (sheetOf book i) (accepted (sheetOf book i) e)) (λ e. some)
+  counts-few counted top few i =
+      by-cond (λ v. v ≤ top) (accepts (sheetOf book i)) (counted (finalOf (sheetOf book i))) 0 (λ e. few (sheetOf book i) (accepted (sheetOf book i) e)) (λ e. zero-le)
+
+  -- the sheets' bounds together bound the tally
+  tally-few : sumTo (sheetCount book) (counts book (λ x. x .moves)) ≤ mostInBook book
+  unfolding counts finalsOf mostInBook takesSheet ownRefusal accepts
+  tally-few =
+      sum-mono (sheetCount book) λ i l.
+      by-test (eqb (sheetRefusal (sheetOf book i)) 0)
+      (λ t. rw t (final-few (sheetOf book i) (eqb-true _ 0 t) .inAll))
+      (λ t. rw t zero-le)
 
   -- before any sheet
   pub begin : {owners prices scratch : List ℕ} {sheets : List SheetEntry} {total : Tally} → sheets ≡ noEntries → (total .moves ≡ 0) × (total .cuts ≡ 0) → Passed book owners prices scratch owners prices scratch sheets total 0 0
@@ -97,12 +107,12 @@ module _ (book : List ℕ) where
         unfolding counts
         fitting =
             let p = answer-parts in
-            let moved = counts-few (λ x. x .moves) (2 ^ 60) few-moves (omega arith) in
-            let cut = counts-few (λ x. x .cuts) maxAgents few-cuts (omega arith) in
+            let moved = counts-few (λ x. x .moves) 3968000 few-moves in
+            let cut = counts-few (λ x. x .cuts) maxAgents (λ s z. le-of-lt (few-cuts s z)) in
             let few : j < maxSheets = omega (arith, F .fits .sheetsFit) in
             record {
-              moves = omega (arith, P .moves, p .movesAre, moved j, sum-at-most j (2 ^ 60) (λ i m. le-of-lt (moved i)));
-              cuts = omega (arith, P .cuts, p .cutsAre, cut j, sum-at-most j maxAgents (λ i m. le-of-lt (cut i)));
+              moves = omega (arith, P .moves, p .movesAre, moved j, sum-at-most j 3968000 (λ i m. moved i));
+              cuts = omega (arith, P .cuts, p .cutsAre, cut j, sum-at-most j maxAgents (λ i m. cut i));
             }
 
         module _ {n : ℕ} (T : Taken sheet out n) where
@@ -147,6 +157,8 @@ module _ (book : List ℕ) where
         record {
           finals = finalsOf book;
           demand3 = λ i l t. final-demand3 (sheetOf book i) (eqb-true (sheetRefusal (sheetOf book i)) 0 t);
+          few = λ i l t. final-few (sheetOf book i) (eqb-true (sheetRefusal (sheetOf book i)) 0 t);
+          fewInAll = omega (arith, rw e at (P .moves), tally-few);
           refusal = refl;
           count = counted;
           answers = rw e at (P .answers);

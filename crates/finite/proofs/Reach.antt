@@ -10,7 +10,7 @@ use Rattle.finite.specs.Reach.{reach}
 use Rattle.finite.proofs.Tests.{by-test, clash, bool-eq, and-elim, and-intro, or-cases, or-left, or-right}
 use Rattle.finite.proofs.Below.{by-less}
 use Rattle.finite.proofs.Search.{any-elim, any-intro}
-use Rattle.finite.proofs.Counts.{count-le, count-strict}
+use Rattle.finite.proofs.Counts.{count-le, count-strict, count-point}
 
 -- i is linked to a place that t rounds reach
 pub record Via (n : ℕ) (start : ℕ → Bool) (link : ℕ → ℕ → Bool) (t i : ℕ) : Type 0 where
@@ -59,10 +59,11 @@ module _ (n : ℕ) (start : ℕ → Bool) (link : ℕ → ℕ → Bool) where
   pub reach-start : (t i : ℕ) → start i ≡ true → reach n start link t i ≡ true
   reach-start t i h = reach-mono {t = 0} {u = t} (omega arith) i (reach-zero i ∙ h)
 
-  -- the round that adds i comes after rounds that each added a place: t + 1 of them at least are reached
-  pub reach-grows : (t i : ℕ) → i < n → reach n start link (suc t) i ≡ true → reach n start link t i ≡ false → suc t ≤ countTo n (reach n start link (suc t))
+  -- the round that adds i comes after a start and rounds that each added a place: more than t + 1 are reached
+  pub reach-grows : (t i : ℕ) → i < n → reach n start link (suc t) i ≡ true → reach n start link t i ≡ false → suc t < countTo n (reach n start link (suc t))
   reach-grows zero i l h k =
-      omega (arith, count-strict (reach n start link 0) (reach n start link 1) (λ c m. reach-kept 0 c) i l k h)
+      let v = reach-added 0 i h k in
+      omega (arith, count-point (reach n start link 0) (v .next) (v .below) (v .reached), count-strict (reach n start link 0) (reach n start link 1) (λ c m. reach-kept 0 c) i l k h)
   reach-grows (suc t) i l h k =
       let v = reach-added (suc t) i h k in
       let j = v .next in
@@ -70,11 +71,15 @@ module _ (n : ℕ) (start : ℕ → Bool) (link : ℕ → ℕ → Bool) where
       (λ e. absurd (clash (reach-step t i j (v .below) e (v .linked)) k))
       (λ e. omega (arith, reach-grows t j (v .below) (v .reached) e, count-strict (reach n start link (suc t)) (reach n start link (suc (suc t))) (λ c m. reach-kept (suc t) c) i l k h))
 
+  -- a round that adds a place is one of the first n - 1
+  pub reach-early : (t i : ℕ) → i < n → reach n start link (suc t) i ≡ true → reach n start link t i ≡ false → suc t < n
+  reach-early t i l h k = omega (arith, reach-grows t i l h k, count-le n (reach n start link (suc t)))
+
   -- after n rounds nothing more is added
   pub reach-closed : (i : ℕ) → i < n → reach n start link (suc n) i ≡ true → reach n start link n i ≡ true
   reach-closed i l h =
       by-test (reach n start link n i) (λ e. e)
-      (λ e. absurd (omega (arith, reach-grows n i l h e, count-le n (reach n start link (suc n)))))
+      (λ e. absurd (omega (arith, reach-early n i l h e)))
 
   -- a place linked to one that n rounds reach is reached by them too
   pub reach-link : (i j : ℕ) → i < n → j < n → reach n start link n j ≡ true → link i j ≡ true → reach n start link n i ≡ true

@@ -3,3 +3,4 @@ pub mod Allocations
 pub mod Cases
 pub mod Starred
 pub mod Pairs
+pub mod MostMoves

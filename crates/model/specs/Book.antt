@@ -5,10 +5,11 @@ use mathlib.Core.List.{List, [], _++_}
 use lib.Dec.{eqb, ltb}
 use lib.ListN.{drop}
 use Rattle.finite.specs.Sums.{sumTo}
-use Rattle.model.specs.Sheet.{choresOf}
+use Rattle.model.specs.Sheet.{agentsOf, choresOf}
 use Rattle.model.specs.Contents.{sheetCount, sheetOf}
 use Rattle.model.specs.Algorithm.{State}
 use Rattle.model.specs.Refusals.{sheetRefusal}
+use Rattle.model.specs.MostMoves.{mostMoves}
 use Rattle.model.specs.Replies.{Reply, refused, sharedAt, absent}
 
 module _ (book : List ℕ) where
@@ -27,6 +28,11 @@ module _ (book : List ℕ) where
   -- "the owners of each sheet go into the next free stretch of one long list": the first entry of sheet j, "counted from 0"
   unfoldable pub firstEntry : ℕ → ℕ
   firstEntry j = sumTo j entriesOf
+
+  -- the most moves of its accepted sheets together
+  unfoldable pub mostInBook : ℕ
+  mostInBook =
+      sumTo (sheetCount book) (λ j. cond (takesSheet j) (mostMoves (agentsOf (sheetOf book j)) (choresOf (sheetOf book j))) 0)
 
   module _ (finals : ℕ → State) where
     -- "For each sheet the call tells either its refusal number or its moves, cuts and first entry"; nothing from the count on

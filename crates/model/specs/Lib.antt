@@ -10,6 +10,7 @@ pub mod Algorithm
 pub mod Refusals
 pub mod Replies
 pub mod Verdicts
+pub mod MostMoves
 pub mod Book
 pub mod Promises
 pub mod Cases

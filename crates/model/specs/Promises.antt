@@ -1,6 +1,6 @@
 -- What each public call promises, refused or not. In each record plain names are the lists as handed in, and primed ones the same memory when
 -- the call returns. `sheet_refusal` promises `r ≡ sheetRefusal sheet`, and the price check, which lends nothing, `PricesChecked`.
-use Prim.Native.Nat.{ℕ, _≤_, _<_, _-_}
+use Prim.Native.Nat.{ℕ, _≤_, _<_, _+_, _-_, _*_}
 use mathlib.Core.Bool.{true, false, cond}
 use mathlib.Core.List.{List, []}
 use mathlib.Core.Path.{_≡_}
@@ -18,7 +18,8 @@ use Rattle.model.specs.Algorithm.{State, lacking, after, Ends}
 use Rattle.model.specs.Refusals.{allocateRefusal, lookupRefusal, bookRefusal}
 use Rattle.model.specs.Replies.{Reply, refused, shared, absent, holds, wasteful, accepted, shareOutReply, listReply, priceReply, replyAt}
 use Rattle.model.specs.Verdicts.{listCheck, priceCheck}
-use Rattle.model.specs.Book.{takesSheet, sheetAnswer, longList, tallyOf}
+use Rattle.model.specs.MostMoves.{roundMoves, mostMoves}
+use Rattle.model.specs.Book.{takesSheet, sheetAnswer, longList, tallyOf, mostInBook}
 
 -- Demand 3: what holds of the state in which the share-out of a sheet that breaks no rule ends.
 pub record Demand3 (s : List ℕ) (final : State) : Type 0 where
@@ -39,10 +40,17 @@ pub record Demand3 (s : List ℕ) (final : State) : Type 0 where
   -- "the price check accepts it with the returned prices"
   pub passes : priceCheck s (final .owners) (final .prices) ≡ accepted
 
+-- Demand 1, no "run without end": how many moves the share-out of a sheet that breaks no rule takes at most.
+pub record FewMoves (s : List ℕ) (final : State) : Type 0 where
+  -- for each round: all but the last end with a cut
+  pub byRounds : final .moves ≤ (final .cuts + 1) * roundMoves (agentsOf s) (choresOf s)
+  pub inAll : final .moves ≤ mostMoves (agentsOf s) (choresOf s)
+
 -- The share-out of a sheet that is not refused.
 pub record SharedOut (s owners prices scratch owners′ prices′ scratch′ : List ℕ) (r : ShareOut) : Type 0 where
   pub final : State
   pub demand3 : Demand3 s final
+  pub few : FewMoves s final
   pub answer : shareOutReply r ≡ shared (final .moves) (final .cuts)
   -- "the first m entries of a result list are written and the rest keep theirs"
   pub ownersWritten : take (choresOf s) owners′ ≡ final .owners
@@ -103,6 +111,9 @@ pub record BookSharedOut (book owners prices scratch owners′ prices′ scratch
   -- each accepted sheet's share-out meets demand 3
   pub finals : ℕ → State
   pub demand3 : (j : ℕ) → j < sheetCount book → takesSheet book j ≡ true → Demand3 (sheetOf book j) (finals j)
+  -- and takes few moves, so that all of them together do
+  pub few : (j : ℕ) → j < sheetCount book → takesSheet book j ≡ true → FewMoves (sheetOf book j) (finals j)
+  pub fewInAll : r .tally .moves ≤ mostInBook book
   pub refusal : r .refusal ≡ 0
   pub count : r .count ≡ sheetCount book
   pub answers : (j : ℕ) → entryAt r j ≡ sheetAnswer book finals j
