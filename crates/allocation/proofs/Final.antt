@@ -13,12 +13,11 @@ use Rattle.model.specs.Sheet.{choresOf, asRead}
 use Rattle.model.specs.Algorithm.{State}
 use Rattle.model.specs.Refusals.{sheetRefusal}
 use Rattle.model.specs.Promises.{Demand3, FewMoves}
-use Rattle.model.proofs.MostMoves.{most-at-4000}
 use Rattle.sheet.proofs.Refusal.{valid}
 use Rattle.algorithm.specs.Theorem.{Theorem}
 use Rattle.algorithm.proofs.Theorem.{theorem}
 use Rattle.allocation.specs.Final.{accepts, finalBy, finalOf}
-use Rattle.allocation.proofs.Running.{ended-shaped}
+use Rattle.allocation.proofs.Running.{most-moves, ended-shaped}
 
 module _ (s : List ℕ) where
   pub accept : sheetRefusal s ≡ 0 → accepts s ≡ true
@@ -59,9 +58,7 @@ module _ (s : List ℕ) where
     final-few = final-theorem (FewMoves s) (λ T. T .few)
 
     pub few-moves : finalOf s .moves ≤ 3968000
-    few-moves =
-        let v = valid s z in
-        omega (arith, final-few .inAll, most-at-4000 (v .agentsFit) (omega (arith, v .choresFit)))
+    few-moves = omega (arith, final-few .inAll, most-moves (valid s z))
 
     pub few-cuts : finalOf s .cuts < maxAgents
     few-cuts = omega (arith, final-demand3 .cuts, valid s z .agentsFit)

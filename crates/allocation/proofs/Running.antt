@@ -6,7 +6,8 @@ use mathlib.Core.Path.{_≡_, refl, ap, _∙_}
 use native.Mathlib.Omega.{arith}
 use lib.ListN.{length}
 use Rattle.model.specs.Limits.{maxAgents}
-use Rattle.model.specs.Sheet.{asRead}
+use Rattle.model.specs.Sheet.{agentsOf, choresOf, asRead}
+use Rattle.model.specs.MostMoves.{mostMoves}
 use Rattle.model.specs.Algorithm.{State, busy, done, step, next, after, Ends}
 use Rattle.model.proofs.MostMoves.{most-at-4000}
 use Rattle.sheet.specs.Valid.{Valid}
@@ -20,6 +21,10 @@ use Rattle.steps.specs.Turns.{stateOf, Turning}
 use Rattle.allocation.specs.Runs.{Running, Kit}
 use Rattle.steps.proofs.Ready.{reached-ready}
 
+-- the most moves of a share-out, in numbers
+pub most-moves : {s : List ℕ} → Valid s → mostMoves (agentsOf s) (choresOf s) ≤ 3968000
+most-moves {s} v = most-at-4000 (agentsOf s) (choresOf s) (v .agentsFit) (omega (arith, v .choresFit))
+
 module _ {s : List ℕ} (v : Valid s) {owners prices groups entitled : List ℕ} {moves cuts stage : ℕ} (R : Running s owners prices groups entitled moves cuts stage) where
   pub state-reached : Reached (asRead s) (stateOf owners prices groups entitled moves cuts stage)
   state-reached = reached (read-sound v) (opening-reached (read-sound v)) (R .count) _ (R .comes)
@@ -30,7 +35,7 @@ module _ {s : List ℕ} (v : Valid s) {owners prices groups entitled : List ℕ}
 
   pub moves-fit : moves ≤ 3968000
   unfolding asRead
-  moves-fit = omega (arith, moves-bound state-reached, most-at-4000 (v .agentsFit) (omega (arith, v .choresFit)))
+  moves-fit = omega (arith, moves-bound state-reached, most-moves v)
 
   pub cuts-fit : cuts < maxAgents
   unfolding asRead

@@ -131,6 +131,7 @@ module _
                         λ _. record {
                           final = shared .final;
                           demand3 = shared .demand3;
+                          few = shared .few;
                           answer = shared .answer;
                           ownersWritten = shared .ownersWritten;
                           ownersKept = shared .ownersKept;

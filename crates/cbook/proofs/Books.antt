@@ -150,6 +150,8 @@ module _
                       λ _. record {
                         finals = shared .finals;
                         demand3 = shared .demand3;
+                        few = shared .few;
+                        fewInAll = shared .fewInAll;
                         refusal = shared .refusal;
                         count = shared .count;
                         answers = shared .answers;

@@ -13,15 +13,15 @@ unfolding mostMoves roundMoves
 most-in-numbers = (refl, refl, refl)
 
 -- no more agents and no more chores: no more moves
-pub most-grows : {n m agents chores : ℕ} → n ≤ agents → m ≤ chores → mostMoves n m ≤ mostMoves agents chores
+pub most-grows : (n m agents chores : ℕ) → n ≤ agents → m ≤ chores → mostMoves n m ≤ mostMoves agents chores
 unfolding mostMoves roundMoves
-most-grows {n} {agents = agents} hn hm =
+most-grows n m agents chores hn hm =
     let fewer : n - 1 ≤ agents - 1 = omega arith in
     mul-le-mul hn (mul-le-mul fewer hm)
 
-pub most-at-limits : {n m : ℕ} → n ≤ maxAgents → m ≤ maxChores → mostMoves n m ≤ 198400
-most-at-limits hn hm = omega (arith, most-grows hn hm, most-in-numbers)
+pub most-at-limits : (n m : ℕ) → n ≤ maxAgents → m ≤ maxChores → mostMoves n m ≤ 198400
+most-at-limits n m hn hm = omega (arith, most-grows n m maxAgents maxChores hn hm, most-in-numbers)
 
 -- with more chores than there may be yet
-pub most-at-4000 : {n m : ℕ} → n ≤ maxAgents → m ≤ 4000 → mostMoves n m ≤ 3968000
-most-at-4000 hn hm = omega (arith, most-grows hn hm, most-in-numbers)
+pub most-at-4000 : (n m : ℕ) → n ≤ maxAgents → m ≤ 4000 → mostMoves n m ≤ 3968000
+most-at-4000 n m hn hm = omega (arith, most-grows n m maxAgents 4000 hn hm, most-in-numbers)
