@@ -3,6 +3,7 @@
 //! here, so that tests see what a refusal does to them.
 
 pub mod books;
+pub mod bound;
 mod c;
 pub mod lent;
 mod library;

@@ -20,15 +20,19 @@ pub enum Shape {
     Alike,
     /// Most rows have difficult marks only.
     Difficult,
+    /// Each agent likes some chores with the agent after it, and no others: a
+    /// surplus goes from hand to hand, in long chains of moves.
+    Path,
 }
 
-pub const SHAPES: [Shape; 6] = [
+pub const SHAPES: [Shape; 7] = [
     Shape::Tempers,
     Shape::Disjoint,
     Shape::Ladder,
     Shape::Dear,
     Shape::Alike,
     Shape::Difficult,
+    Shape::Path,
 ];
 
 /// For each agent and chore, whether the mark is easy.
@@ -42,6 +46,7 @@ pub fn rows(random: &mut Random, shape: Shape, agents: usize, chores: usize) -> 
         Shape::Dear => dear(random, agents, chores),
         Shape::Alike => vec![tempers(random, 1, chores).remove(0); agents],
         Shape::Difficult => difficult(random, agents, chores),
+        Shape::Path => path(random, agents, chores),
     };
     let mark = |&easy: &bool| if easy { 'e' } else { 'd' };
     likes
@@ -120,6 +125,18 @@ fn difficult(random: &mut Random, agents: usize, chores: usize) -> Likes {
         }
     }
     likes
+}
+
+fn path(random: &mut Random, agents: usize, chores: usize) -> Likes {
+    let noise = [0, 0, 1][random.below(3)];
+    // The first two agents have more in common than any others.
+    let surplus = random.below(chores + 1) / 2;
+    let first = |chore: usize| chore.saturating_sub(surplus) % (agents - 1).max(1);
+    let mut likes = |agent: usize, chore: usize| {
+        agent == first(chore) || agent == first(chore) + 1 || random.chance(noise)
+    };
+    let mut row = |agent: usize| (0..chores).map(|chore| likes(agent, chore)).collect();
+    (0..agents).map(&mut row).collect()
 }
 
 pub fn sheet(random: &mut Random, shape: Shape, agents: usize, chores: usize) -> Vec<u8> {

@@ -1,6 +1,8 @@
 //! Books against the second program: the lookup of each sheet, each sheet's
-//! answer, the long lists and the tally, and all lent memory.
+//! answer, the long lists and the tally, and all lent memory. No book takes more
+//! moves than its sheets may.
 
+use compare::bound::{assert_few, most_moves};
 use compare::lent::{assert_all_hold, Lent};
 use compare::random::Random;
 use compare::{books, shapes, BookAnswers, BOOK_SHEETS};
@@ -107,7 +109,24 @@ fn compared(random: &mut Random, book: &[u8], lengths: Lengths) -> BookShareOut 
         "answers of {book:?}, lent {lengths:?}"
     );
     assert_all_hold(&lent, [owners, prices, scratch], book);
+    assert_few_in_all(book, &answer);
     answer
+}
+
+/// The moves of each accepted sheet, and of all together, are no more than they may be.
+fn assert_few_in_all(book: &[u8], answer: &BookShareOut) {
+    let BookShareOut::Shared { sheets, total } = answer else {
+        return;
+    };
+    let mut most = 0;
+    for (sheet, number) in sheets.iter().zip(1..) {
+        if let SheetShareOut::Shared { moves, cuts, .. } = *sheet {
+            let body = lookup(book, number).expect("a sheet of the book");
+            assert_few(body, moves, cuts);
+            most += most_moves(body);
+        }
+    }
+    assert!(total.moves <= most, "{total:?} of {book:?}");
 }
 
 /// The lookup of sheets that the book has and of some that it has not.

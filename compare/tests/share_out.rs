@@ -1,5 +1,7 @@
-//! The share-out against the second program: owners, prices, moves, cuts and all lent memory.
+//! The share-out against the second program: owners, prices, moves, cuts and
+//! all lent memory. No share-out takes more moves than it may.
 
+use compare::bound::assert_few;
 use compare::lent::{assert_all_hold, enough, short, Lengths, Lent};
 use compare::random::{damaged, Random};
 use compare::shapes::{self, Shape};
@@ -42,12 +44,14 @@ fn compared(random: &mut Random, way: Way, sheet: &[u8], lengths: Lengths) -> Sh
     answer
 }
 
-/// How many sheets took a cut, and the most moves and cuts of any.
+/// How many sheets took a cut, the most moves and cuts of any, and the greatest
+/// part of the bound on moves that any came to.
 #[derive(Debug, Default)]
 struct Seen {
     cut: usize,
     moves: u64,
     cuts: u8,
+    part: f64,
 }
 
 fn compare_all(seed: u64, count: usize, way: Way, sheet: impl Fn(&mut Random) -> Vec<u8>) -> Seen {
@@ -62,9 +66,11 @@ fn compare_all(seed: u64, count: usize, way: Way, sheet: impl Fn(&mut Random) ->
                 seen.cut += usize::from(cuts > 0);
                 seen.moves = seen.moves.max(moves);
                 seen.cuts = seen.cuts.max(cuts);
+                seen.part = seen.part.max(assert_few(&sheet, moves, cuts));
             }
         }
     }
+    println!("{seen:?}");
     seen
 }
 

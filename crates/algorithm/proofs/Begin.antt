@@ -1,24 +1,24 @@
 -- The opening state is a reached one. Of the opening no more is used than `Opened` says.
 -- Assumes nothing.
 use Prim.Native.Nat.{ℕ, _<_}
-use mathlib.Core.Path.{_≡_, refl}
-use native.Mathlib.Nat.{le-of-eq, mul-le-mul-left}
+use mathlib.Core.Path.{refl}
+use native.Mathlib.Nat.{le-of-eq}
 use native.Mathlib.Omega.{arith}
 use lib.Dec.{ltb}
 use borrow.Author.Tests.{le-ltb}
-use Rattle.finite.proofs.Counts.{count-le, count-none}
+use Rattle.finite.proofs.Counts.{count-none}
 use Rattle.model.specs.Instance.{Instance}
 use Rattle.model.specs.Step2b.{above}
 use Rattle.model.specs.Algorithm.{State, owner, price, group, opening}
 use Rattle.model.specs.MostMoves.{roundMoves}
 use Rattle.algorithm.specs.Kinds.{Sound}
-use Rattle.algorithm.specs.Chain.{chainTop, held, settled}
+use Rattle.algorithm.specs.Chain.{settled}
 use Rattle.algorithm.specs.Reached.{in2b, Reached}
 use Rattle.algorithm.specs.Opened.{Beginning}
+use Rattle.algorithm.proofs.Chain.{round-room}
 use Rattle.algorithm.proofs.Opening.{core-opened, opening-group, opening-entitled, opening-owners-length, opening-prices-length, opening-groups-length, opening-entitled-length, opening-picks, opening-opened}
 
 pub begin-reached : {I : Instance} {s : State} → Sound I → Beginning I s → Reached I s
-unfolding roundMoves chainTop held
 begin-reached {I} {s} S B =
     let K = core-opened (B .opened) S (B .noGroups) (B .noneEntitled) in
     let none : (i : ℕ) → i < I .n → 0 < group I s i → ⊥ = λ i h g. omega (arith, B .noGroups i h) in
@@ -33,7 +33,7 @@ begin-reached {I} {s} S B =
       room = roundMoves (I .n) (I .m);
       place =
           in2b (B .in2b) (λ z. absurd (omega arith))
-          (settled (record { quiet = λ i hi g. absurd (none i hi g) }) (mul-le-mul-left (chainTop I) (count-le (I .m) (λ c. above I (owner I s) (price I s) (owner I s c)))));
+          (settled (record { quiet = λ i hi g. absurd (none i hi g) }) (round-room I (owner I s) (above I (owner I s) (price I s))));
       budget = omega (arith, B .noMoves, B .noCuts);
     }
 

@@ -4,17 +4,18 @@
 use Prim.Native.Nat.{ℕ, suc, _+_, _-_, _*_, _≤_, _<_}
 use mathlib.Core.Bool.{Bool, true, false, not}
 use mathlib.Core.Path.{_≡_, sym, ap, _∙_}
-use native.Mathlib.Nat.{le-refl, mul-le-mul-left}
+use native.Mathlib.Nat.{le-refl, mul-le-mul, mul-le-mul-left}
 use native.Mathlib.Omega.{arith}
 use lib.Dec.{eqb, leb}
 use borrow.Author.Tests.{le-leb, ne-eqb, eqb-false, not-true}
 use Rattle.finite.specs.Moves.{Moves}
 use Rattle.finite.proofs.Tests.{clash, not-yes, and-elim, and-intro, not-on}
 use Rattle.finite.proofs.Below.{by-less, by-same}
-use Rattle.finite.proofs.Counts.{count-mono, count-strict}
+use Rattle.finite.proofs.Counts.{count-le, count-mono, count-strict}
 use Rattle.model.specs.Instance.{Instance}
 use Rattle.model.specs.Prices.{priceSum, priceUpToOne}
 use Rattle.model.specs.Step2b.{leastSum, above, within, due2b}
+use Rattle.model.specs.MostMoves.{roundMoves}
 use Rattle.algorithm.specs.Kinds.{Sound, dear}
 use Rattle.algorithm.specs.Core.{Core}
 use Rattle.algorithm.specs.Due.{Due}
@@ -23,6 +24,11 @@ use Rattle.algorithm.specs.Chain.{chainTop, held, aboveBut, Carrying, Ch
 use Rattle.algorithm.proofs.UpToOne.{take-up, up-others, relief}
 use Rattle.algorithm.proofs.Best.{free-uncut, uncut-best, best-uncut, dear-best, uncut-price, uncut-least}
 use Rattle.algorithm.proofs.Rings.{of-least, least-of, is-above, above-is, within-zero, least-low, is-due, within-more, ring-below, least-rises, wanted-far, rings-back, rings-forth}
+
+-- a chain for each chore is within the moves of a round
+pub round-room : (I : Instance) (x : ℕ → ℕ) (who : ℕ → Bool) → chainTop I * held I x who ≤ roundMoves (I .n) (I .m)
+unfolding chainTop held roundMoves
+round-room I x who = let long : chainTop I ≤ I .n - 1 = omega arith in mul-le-mul long (count-le (I .m) (λ c. who (x c)))
 
 -- whoever is above the least sum, where u is not, is not u
 above-but : (I : Instance) (x p : ℕ → ℕ) (u i : ℕ) → priceUpToOne (I .m) x p u ≤ leastSum I x p → above I x p i ≡ true → aboveBut I x p u i ≡ true
@@ -124,11 +130,12 @@ module _ {I : Instance} {x p group : ℕ → ℕ} {cut : ℕ → Bool} (S : Soun
           settled (record { quiet = λ i hi g. by-same i u (λ e. rw e l) (low i hi g) }) (omega (arith, mul-le-mul-left (chainTop I) none)))
 
       -- a chain begins: the giver has lost a chore for good
-      begins : Quiet I p group cut x → chainTop I * held I y (aboveBut I y p u) + suc t ≤ chainTop I * held I x (above I x p)
+      begins : chainTop I * held I y (aboveBut I y p u) + suc t ≤ chainTop I * held I x (above I x p)
       unfolding chainTop held
-      begins q =
+      begins =
           let one = count-strict (λ c. aboveBut I y p u (y c)) (λ c. above I x p (x c)) fewer k (d .chore) gone (rw (d .owned) (above-is I x p w (d .giverAbove))) in
-          omega (arith, ring-below d, mul-le-mul-left (I .n - 1) one)
+          let long : suc t ≤ chainTop I = omega (arith, ring-below d) in
+          omega (arith, long, mul-le-mul-left (chainTop I) one)
         where
           fewer : (c : ℕ) → c < I .m → aboveBut I y p u (y c) ≡ true → above I x p (x c) ≡ true
           fewer c l e = let b = but-elim I y p u (y c) e in rw (not-moved c l (b .1)) (was-above (y c) (b .1) (b .0))
@@ -161,7 +168,7 @@ module _ {I : Instance} {x p group : ℕ → ℕ} {cut : ℕ → Bool} (S : Soun
       -- each move leaves room for one move less
       pub chain-moved : {room : ℕ} → Chain I p group cut x room → (0 < room) × Chain I p group cut y (room - 1)
       chain-moved (settled q r) =
-          let f = begins q in
+          let f = begins in
           (omega arith, moved (chain-uncut (settled q r)) (λ i hi g ne. still-low i ne (q .quiet i hi g)) (omega arith))
       chain-moved (carrying v′ s l r) =
           let f = carrier-further l in

@@ -12,7 +12,7 @@ use Rattle.finite.specs.Moves.{Moves}
 use Rattle.finite.proofs.Tests.{by-test, clash}
 use Rattle.finite.proofs.Below.{by-less}
 use Rattle.finite.proofs.Search.{any-elim, any-intro, any-none}
-use Rattle.finite.proofs.Counts.{count-le, count-mono}
+use Rattle.finite.proofs.Counts.{count-mono}
 use Rattle.model.specs.Instance.{Instance}
 use Rattle.model.specs.Prices.{priceSum, priceUpToOne}
 use Rattle.model.specs.Step2a.{giver2a, receiver2a, due2a, chore2a}
@@ -29,7 +29,7 @@ use Rattle.algorithm.specs.Reached.{stepNumber, Shaped, Since, Place, in
 use Rattle.algorithm.proofs.Best.{core-moved}
 use Rattle.algorithm.proofs.Rings.{is-above, not-above, least-low, due-found}
 use Rattle.algorithm.proofs.Entitled.{entitled-moved}
-use Rattle.algorithm.proofs.Chain.{chain-uncut, chain-moved, chain-begins, chain-ends}
+use Rattle.algorithm.proofs.Chain.{round-room, chain-uncut, chain-moved, chain-begins, chain-ends}
 use Rattle.algorithm.proofs.Stage.{stage-due, stage-apart, stage-moved, stage-core, stage-falls, stage-passed, stage-quiet, stage-began}
 use Rattle.algorithm.proofs.Rising.{cuts-rise}
 use Rattle.algorithm.proofs.Cut.{apart}
@@ -109,7 +109,7 @@ module _ {I : Instance} {s : State} (R : Reached I s) where
       omega (arith, one, fewer-cuts)
 
   cut-reached : Sound I → NextRound I (owner I s) (price I s) (group I s) (isEntitled I s) (s .cuts) (price I (afterCut I s)) (group I (afterCut I s)) (isEntitled I (afterCut I s)) → Reached I (afterCut I s)
-  unfolding afterCut roundMoves chainTop held
+  unfolding afterCut
   cut-reached S N =
       let t = afterCut I s in
       record {
@@ -121,7 +121,7 @@ module _ {I : Instance} {s : State} (R : Reached I s) where
         top = leastSum I (owner I s) (price I s);
         entitled = N .entitled;
         room = roundMoves (I .n) (I .m);
-        place = place-of S t (omega (arith, fewer-cuts)) (N .core) (N .stage) (mul-le-mul-left (chainTop I) (count-le (I .m) (λ c. leb (group I t (owner I t c)) (t .stage))));
+        place = place-of S t (omega (arith, fewer-cuts)) (N .core) (N .stage) (round-room I (owner I t) (λ i. leb (group I t i) (t .stage)));
         budget = omega (arith, R .budget);
       }
 

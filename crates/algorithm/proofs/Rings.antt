@@ -54,7 +54,7 @@ any-found : (n : ℕ) (t : ℕ → Bool) → anyBelow n t ≡ true → First n t
 any-found n t e = let h = any-elim n t e in found n t (first-some t (h .index) (h .below) (h .passes))
 
 module _ (I : Instance) (x p : ℕ → ℕ) where
-  pub supplies-intro : (i j c : ℕ) → c < I .m → x c ≡ i → best I p j c ≡ true → supplies I x p i j ≡ true
+  supplies-intro : (i j c : ℕ) → c < I .m → x c ≡ i → best I p j c ≡ true → supplies I x p i j ≡ true
   unfolding supplies owns
   supplies-intro i j c h o b = any-intro (λ c. owns x i c && best I p j c) c h (and-intro (eq-eqb (x c) i o) b)
 
@@ -95,7 +95,7 @@ module _ (I : Instance) (x p : ℕ → ℕ) where
   unfolding within
   within-kept t i h = reach-kept (I .n) (ofLeastSum I x p) (supplies I x p) t i h
 
-  pub within-step : (t i j : ℕ) → j < I .n → within I x p t j ≡ true → supplies I x p i j ≡ true → within I x p (suc t) i ≡ true
+  within-step : (t i j : ℕ) → j < I .n → within I x p t j ≡ true → supplies I x p i j ≡ true → within I x p (suc t) i ≡ true
   unfolding within
   within-step t i j h r s = reach-step (I .n) (ofLeastSum I x p) (supplies I x p) t i j h r s
 
@@ -277,7 +277,7 @@ module _ {I : Instance} {x p : ℕ → ℕ} {t w u k : ℕ} (d : Due I x p t w u
       omega (arith, sum-above (l .index) (l .below), l .value)
 
   -- where the least sum stays, nobody comes to have it
-  pub least-back : leastSum I y p ≡ leastSum I x p → (i : ℕ) → i < I .n → ofLeastSum I y p i ≡ true → ofLeastSum I x p i ≡ true
+  least-back : leastSum I y p ≡ leastSum I x p → (i : ℕ) → i < I .n → ofLeastSum I y p i ≡ true → ofLeastSum I x p i ≡ true
   least-back same i hi e =
       let l = of-least I y p i e in
       by-same i w (λ q. absurd (omega (arith, rw q at l, giver-left))) λ a.
@@ -294,7 +294,7 @@ module _ {I : Instance} {x p : ℕ → ℕ} {t w u k : ℕ} (d : Due I x p t w u
 
   -- Lemma rings: where the receiver is not of least sum, the least sum stays, and no distance falls; up to t none grows
   module _ (far : priceSum (I .m) x p u ≡ leastSum I x p → ⊥) where
-    pub least-stays : leastSum I y p ≡ leastSum I x p
+    least-stays : leastSum I y p ≡ leastSum I x p
     least-stays =
         let l = least-low I x p some-agent in
         let a : l .index ≡ w → ⊥ = λ e. omega (arith, rw e at (l .value), d .giverAbove, up-le (I .m) x p w) in
@@ -302,7 +302,7 @@ module _ {I : Instance} {x p : ℕ → ℕ} {t w u k : ℕ} (d : Due I x p t w u
         let z = least-low I y p some-agent .under (l .index) (l .below) in
         omega (arith, z, l .value, other-sum v p (l .index) a b, least-rises)
 
-    pub least-forth : (i : ℕ) → ofLeastSum I x p i ≡ true → ofLeastSum I y p i ≡ true
+    least-forth : (i : ℕ) → ofLeastSum I x p i ≡ true → ofLeastSum I y p i ≡ true
     least-forth i e =
         let l = of-least I x p i e in
         let a : i ≡ w → ⊥ = λ q. omega (arith, rw q at l, d .giverAbove, up-le (I .m) x p w) in

@@ -104,7 +104,7 @@ module _ {m : ℕ} {x y : ℕ → ℕ} {k w u : ℕ} (v : Moves m x y k w u) (p 
       (λ e. rw e (omega arith))
       (λ ne. omega (arith, dearest-above m y p w c l (sym (v .rest c l ne) ∙ o)))
 
-  pub give-up : priceUpToOne m y p w ≤ priceUpToOne m x p w
+  give-up : priceUpToOne m y p w ≤ priceUpToOne m x p w
   give-up = omega (arith, up-dearest m x p w, up-dearest m y p w, give-sum, give-dearest)
 
   pub give-leaves : priceUpToOne m x p w ≤ priceSum m y p w
@@ -124,7 +124,7 @@ module _ {m : ℕ} {x y : ℕ → ℕ} {k w u : ℕ} (v : Moves m x y k w u) (p 
   unfolding dearest owns
   other-dearest i a b = peak-cong m (λ c l. sym (moves-same v i a b c l)) (λ c l o. refl)
 
-  pub other-up : (i : ℕ) → (i ≡ w → ⊥) → (i ≡ u → ⊥) → priceUpToOne m y p i ≡ priceUpToOne m x p i
+  other-up : (i : ℕ) → (i ≡ w → ⊥) → (i ≡ u → ⊥) → priceUpToOne m y p i ≡ priceUpToOne m x p i
   other-up i a b = omega (arith, up-dearest m x p i, up-dearest m y p i, other-sum i a b, other-dearest i a b)
 
   -- price-one grows for the receiver alone

@@ -53,9 +53,6 @@ sum-const (suc j) k = rw (sum-const j k, suc-mul)
 pub sum-at-most : (n b : ℕ) {f : ℕ → ℕ} → ((c : ℕ) → c < n → f c ≤ b) → sumTo n f ≤ n * b
 sum-at-most n b h = rw (← sum-const n b) (sum-mono n h)
 
-pub sum-at-least : (n b : ℕ) {f : ℕ → ℕ} → ((c : ℕ) → c < n → b ≤ f c) → n * b ≤ sumTo n f
-sum-at-least n b h = rw (← sum-const n b) (sum-mono n h)
-
 pub sum-none : (n : ℕ) {f : ℕ → ℕ} → ((c : ℕ) → c < n → f c ≡ 0) → sumTo n f ≡ 0
 sum-none n h = sum-cong n h ∙ sum-const n 0 ∙ mul-zero n
 
@@ -103,7 +100,7 @@ unfolding sumTo
 sum-swap zero m f = sym (sum-none m (λ c l. refl))
 sum-swap (suc k) m f = rw (sum-swap k m f) (sym (sum-add m (λ c. sumTo k (λ i. f i c)) (f k)))
 
-pub sum-split : (n m : ℕ) (f : ℕ → ℕ) → sumTo (n + m) f ≡ sumTo n f + sumTo m (λ c. f (n + c))
+sum-split : (n m : ℕ) (f : ℕ → ℕ) → sumTo (n + m) f ≡ sumTo n f + sumTo m (λ c. f (n + c))
 unfolding sumTo
 sum-split n zero f = rw (add-zero n) (omega arith)
 sum-split n (suc k) f = rw add-suc (omega (arith, sum-split n k f))

@@ -37,7 +37,7 @@ pub where-value : (n : ℕ) (t : ℕ → Bool) {f g : ℕ → ℕ} → ((c : ℕ
 where-value n t e = where-cong n (λ c l. refl) e
 
 -- a wider test, and values at least as great where the first passes
-pub where-mono : (n : ℕ) (t u : ℕ → Bool) {f g : ℕ → ℕ} → ((c : ℕ) → c < n → t c ≡ true → u c ≡ true) → ((c : ℕ) → c < n → t c ≡ true → f c ≤ g c) → sumWhere n t f ≤ sumWhere n u g
+where-mono : (n : ℕ) (t u : ℕ → Bool) {f g : ℕ → ℕ} → ((c : ℕ) → c < n → t c ≡ true → u c ≡ true) → ((c : ℕ) → c < n → t c ≡ true → f c ≤ g c) → sumWhere n t f ≤ sumWhere n u g
 unfolding sumWhere
 where-mono n t u h e = sum-mono n (λ c l. cond-mono (t c) (u c) (h c l) (e c l))
 
@@ -71,7 +71,7 @@ where-zeros n t h = sum-none n (λ c l. cond-cong refl (h c l) (λ _. refl) ∙ 
 pub where-none : (n : ℕ) (t : ℕ → Bool) (f : ℕ → ℕ) → ((c : ℕ) → c < n → t c ≡ false) → sumWhere n t f ≡ 0
 where-none n t f h = where-zeros n t (λ c l p. absurd (clash p (h c l)))
 
-pub where-all : (n : ℕ) (t : ℕ → Bool) (f : ℕ → ℕ) → ((c : ℕ) → c < n → t c ≡ true) → sumWhere n t f ≡ sumTo n f
+where-all : (n : ℕ) (t : ℕ → Bool) (f : ℕ → ℕ) → ((c : ℕ) → c < n → t c ≡ true) → sumWhere n t f ≡ sumTo n f
 unfolding sumWhere
 where-all n t f h = sum-cong n (λ c l. cond-true (f c) 0 (h c l))
 

@@ -28,7 +28,7 @@ pub record Bought (I : Instance) (x p : ℕ → ℕ) : Type 0 where
   pub best-owned : (c : ℕ) → c < I .m → best I p (x c) c ≡ true
 
 -- what the agents pay together is the price of all chores, whoever owns what
-pub price-of-all : (n m : ℕ) (x p : ℕ → ℕ) → ((c : ℕ) → c < m → x c < n) → sumTo n (priceSum m x p) ≡ sumTo m p
+price-of-all : (n m : ℕ) (x p : ℕ → ℕ) → ((c : ℕ) → c < m → x c < n) → sumTo n (priceSum m x p) ≡ sumTo m p
 unfolding total owns
 price-of-all n m x p h = fibres n m x p h
 

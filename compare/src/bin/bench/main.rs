@@ -1,7 +1,9 @@
 //! Times the proved share-out and both checks beside a plain C program's, and
-//! the share-out beside the second program's too.
+//! the share-out beside the second program's too. Tells the longest time that a
+//! share-out can take.
 
 mod checks;
+mod longest;
 mod share_outs;
 mod sheets;
 mod timing;
@@ -18,4 +20,6 @@ fn main() {
     share_outs::table(&mut random);
     println!();
     checks::table(&mut random);
+    println!();
+    longest::table(&mut random);
 }

@@ -14,7 +14,7 @@ pub struct Desk {
     owners: [u8; MAX_CHORES],
     prices: [u8; PRICE_BYTES * MAX_CHORES],
     scratch: [u8; MIN_SCRATCH],
-    moves: u64,
+    pub moves: u64,
     pub cuts: u8,
 }
 
@@ -22,7 +22,7 @@ pub struct Desk {
 type Way = fn(&mut Desk, &[u8]);
 
 impl Desk {
-    fn new() -> Self {
+    pub fn new() -> Self {
         Desk {
             owners: [0; MAX_CHORES],
             prices: [0; PRICE_BYTES * MAX_CHORES],
@@ -50,7 +50,7 @@ impl Desk {
         assert_eq!(number, 0);
     }
 
-    fn proved(&mut self, sheet: &[u8]) {
+    pub fn proved(&mut self, sheet: &[u8]) {
         self.by(&PROVED, sheet);
     }
 

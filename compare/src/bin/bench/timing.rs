@@ -15,5 +15,19 @@ pub fn in_turn<const WAYS: usize>(mut ways: [&mut dyn FnMut(); WAYS]) -> [f64; W
             *best = start.elapsed().min(*best);
         }
     }
-    best.map(|best| best.as_secs_f64() * 1e6 / sheets::COUNT as f64)
+    best.map(|best| microseconds(best) / sheets::COUNT as f64)
+}
+
+/// The best time of several, in microseconds.
+pub fn best_of(times: usize, mut way: impl FnMut()) -> f64 {
+    let mut time = || {
+        let start = Instant::now();
+        way();
+        start.elapsed()
+    };
+    microseconds((0..times).map(|_| time()).min().unwrap_or_default())
+}
+
+fn microseconds(time: Duration) -> f64 {
+    time.as_secs_f64() * 1e6
 }
