@@ -24,6 +24,15 @@ static void test_sizes(void)
     expect("sheet bytes", "of sums", SHARES_SHEET_BYTES(1 + 1, 2 + 1) == sizeof sheet, 1);
 }
 
+static void test_most_moves(void)
+{
+    const uint8_t agents = 32, chores = 200;
+    expect("most moves", "of one agent", SHARES_MOST_MOVES(1, 200) == 0, 1);
+    expect("most moves", "6 x 60", SHARES_MOST_MOVES(6, 60) == 1800, 1);
+    expect("most moves", "of bytes, without a wrap", SHARES_MOST_MOVES(agents, chores) == 198400, 1);
+    expect("most moves", "of sums", SHARES_MOST_MOVES(5 + 1, 59 + 1) == 1800, 1);
+}
+
 /* The refusal of a sheet of easy marks. */
 static uint8_t refusal_of(uint32_t agents, uint32_t chores, uint32_t difficult, size_t scratch_len)
 {
@@ -168,6 +177,7 @@ int main(void)
 {
     test_version();
     test_sizes();
+    test_most_moves();
     test_limits();
     test_price(0);
     test_price(0x1020304);
