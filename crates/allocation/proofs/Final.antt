@@ -11,6 +11,7 @@ use borrow.Author.Tests.{eqb-true, eqb-false, eq-eqb, ne-eqb}
 use Rattle.model.specs.Limits.{maxAgents}
 use Rattle.model.specs.Sheet.{choresOf, asRead}
 use Rattle.model.specs.Algorithm.{State}
+use Rattle.model.specs.MostMoves.{mostEver}
 use Rattle.model.specs.Refusals.{sheetRefusal}
 use Rattle.model.specs.Promises.{Demand3, FewMoves}
 use Rattle.sheet.proofs.Refusal.{valid}
@@ -57,7 +58,7 @@ module _ (s : List ℕ) where
     pub final-few : FewMoves s (finalOf s)
     final-few = final-theorem (FewMoves s) (λ T. T .few)
 
-    pub few-moves : finalOf s .moves ≤ 3968000
+    pub few-moves : finalOf s .moves ≤ mostEver
     few-moves = omega (arith, final-few .inAll, most-moves (valid s z))
 
     pub few-cuts : finalOf s .cuts < maxAgents

@@ -7,7 +7,7 @@ use native.Mathlib.Omega.{arith}
 use lib.ListN.{length}
 use Rattle.model.specs.Limits.{maxAgents}
 use Rattle.model.specs.Sheet.{agentsOf, choresOf, asRead}
-use Rattle.model.specs.MostMoves.{mostMoves}
+use Rattle.model.specs.MostMoves.{mostMoves, mostEver}
 use Rattle.model.specs.Algorithm.{State, busy, done, step, next, after, Ends}
 use Rattle.model.proofs.MostMoves.{most-at-4000}
 use Rattle.sheet.specs.Valid.{Valid}
@@ -22,7 +22,7 @@ use Rattle.allocation.specs.Runs.{Running, Kit}
 use Rattle.steps.proofs.Ready.{reached-ready}
 
 -- the most moves of a share-out, in numbers
-pub most-moves : {s : List ℕ} → Valid s → mostMoves (agentsOf s) (choresOf s) ≤ 3968000
+pub most-moves : {s : List ℕ} → Valid s → mostMoves (agentsOf s) (choresOf s) ≤ mostEver
 most-moves {s} v = most-at-4000 (agentsOf s) (choresOf s) (v .agentsFit) (omega (arith, v .choresFit))
 
 module _ {s : List ℕ} (v : Valid s) {owners prices groups entitled : List ℕ} {moves cuts stage : ℕ} (R : Running s owners prices groups entitled moves cuts stage) where
@@ -33,7 +33,7 @@ module _ {s : List ℕ} (v : Valid s) {owners prices groups entitled : List ℕ}
   turning k =
       record { ready = reached-ready v state-reached (k .liking) (k .sumsSized) (k .upsSized); moves = moves; reached = state-reached }
 
-  pub moves-fit : moves ≤ 3968000
+  pub moves-fit : moves ≤ mostEver
   unfolding asRead
   moves-fit = omega (arith, moves-bound state-reached, most-moves v)
 

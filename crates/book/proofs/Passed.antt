@@ -19,9 +19,10 @@ use Rattle.model.specs.declared.SheetEntry.{SheetEntry}
 use Rattle.model.specs.Limits.{maxAgents, maxChores, maxSheets, bookEntries}
 use Rattle.model.specs.Contents.{sheetCount, sheetOf}
 use Rattle.model.specs.Algorithm.{State}
+use Rattle.model.specs.MostMoves.{mostEver}
 use Rattle.model.specs.Refusals.{sheetRefusal}
 use Rattle.model.specs.Replies.{absent, sheetReply, replyAt}
-use Rattle.model.specs.Book.{ownRefusal, takesSheet, entriesOf, firstEntry, sheetAnswer, longList, tallyOf, mostInBook}
+use Rattle.model.specs.Book.{ownRefusal, takesSheet, entriesOf, firstEntry, sheetAnswer, longList, overAccepted, tallyOf, mostInBook}
 use Rattle.model.specs.Promises.{entryAt, BookSharedOut}
 use Rattle.sheet.proofs.Refusal.{valid}
 use Rattle.allocation.specs.Final.{accepts, finalOf}
@@ -47,7 +48,7 @@ module _ (book : List ℕ) where
 
   -- the sheets' bounds together bound the tally
   tally-few : sumTo (sheetCount book) (counts book (λ x. x .moves)) ≤ mostInBook book
-  unfolding counts finalsOf mostInBook takesSheet ownRefusal accepts
+  unfolding counts finalsOf overAccepted mostInBook takesSheet ownRefusal accepts
   tally-few =
       sum-mono (sheetCount book) λ i l.
       by-test (eqb (sheetRefusal (sheetOf book i)) 0)
@@ -107,11 +108,11 @@ module _ (book : List ℕ) where
         unfolding counts
         fitting =
             let p = answer-parts in
-            let moved = counts-few (λ x. x .moves) 3968000 few-moves in
+            let moved = counts-few (λ x. x .moves) mostEver few-moves in
             let cut = counts-few (λ x. x .cuts) maxAgents (λ s z. le-of-lt (few-cuts s z)) in
             let few : j < maxSheets = omega (arith, F .fits .sheetsFit) in
             record {
-              moves = omega (arith, P .moves, p .movesAre, moved j, sum-at-most j 3968000 (λ i m. moved i));
+              moves = omega (arith, P .moves, p .movesAre, moved j, sum-at-most j mostEver (λ i m. moved i));
               cuts = omega (arith, P .cuts, p .cutsAre, cut j, sum-at-most j maxAgents (λ i m. cut i));
             }
 
@@ -152,7 +153,7 @@ module _ (book : List ℕ) where
 
     -- when all sheets have passed
     pub finish : j ≡ sheetCount book → (k : ℕ) → k ≡ sheetCount book → BookSharedOut book lentOwners lentPrices lentScratch owners prices scratch (record { refusal = 0; count = k; sheets = sheets; tally = total })
-    unfolding entryAt sheetAnswer longList tallyOf takesSheet ownRefusal accepts told counts longAfter finalsOf
+    unfolding entryAt sheetAnswer longList overAccepted tallyOf takesSheet ownRefusal accepts told counts longAfter finalsOf
     finish e k counted =
         record {
           finals = finalsOf book;

@@ -5,10 +5,10 @@ use mathlib.Core.Path.{_≡_, refl}
 use native.Mathlib.Nat.{mul-le-mul}
 use native.Mathlib.Omega.{arith}
 use Rattle.model.specs.Limits.{maxAgents, maxChores}
-use Rattle.model.specs.MostMoves.{roundMoves, mostMoves}
+use Rattle.model.specs.MostMoves.{roundMoves, mostMoves, mostEver}
 
 -- at 6 x 60, and at 32 agents with 200 and with 4,000 chores
-pub most-in-numbers : (mostMoves 6 60 ≡ 1800) × (mostMoves 32 200 ≡ 198400) × (mostMoves 32 4000 ≡ 3968000)
+pub most-in-numbers : (mostMoves 6 60 ≡ 1800) × (mostMoves 32 200 ≡ 198400) × (mostMoves 32 4000 ≡ mostEver)
 unfolding mostMoves roundMoves
 most-in-numbers = (refl, refl, refl)
 
@@ -22,6 +22,5 @@ most-grows n m agents chores hn hm =
 pub most-at-limits : (n m : ℕ) → n ≤ maxAgents → m ≤ maxChores → mostMoves n m ≤ 198400
 most-at-limits n m hn hm = omega (arith, most-grows n m maxAgents maxChores hn hm, most-in-numbers)
 
--- with more chores than there may be yet
-pub most-at-4000 : (n m : ℕ) → n ≤ maxAgents → m ≤ 4000 → mostMoves n m ≤ 3968000
+pub most-at-4000 : (n m : ℕ) → n ≤ maxAgents → m ≤ 4000 → mostMoves n m ≤ mostEver
 most-at-4000 n m hn hm = omega (arith, most-grows n m maxAgents 4000 hn hm, most-in-numbers)

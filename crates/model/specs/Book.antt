@@ -29,10 +29,13 @@ module _ (book : List ℕ) where
   unfoldable pub firstEntry : ℕ → ℕ
   firstEntry j = sumTo j entriesOf
 
-  -- the most moves of its accepted sheets together
+  -- of the accepted sheets together, what `counted` says of each
+  unfoldable pub overAccepted : (ℕ → ℕ) → ℕ
+  overAccepted counted = sumTo (sheetCount book) (λ j. cond (takesSheet j) (counted j) 0)
+
+  -- the most moves of a whole book
   unfoldable pub mostInBook : ℕ
-  mostInBook =
-      sumTo (sheetCount book) (λ j. cond (takesSheet j) (mostMoves (agentsOf (sheetOf book j)) (choresOf (sheetOf book j))) 0)
+  mostInBook = overAccepted (λ j. mostMoves (agentsOf (sheetOf book j)) (choresOf (sheetOf book j)))
 
   module _ (finals : ℕ → State) where
     -- "For each sheet the call tells either its refusal number or its moves, cuts and first entry"; nothing from the count on
@@ -52,6 +55,6 @@ module _ (book : List ℕ) where
     longList written lent =
         stretches written (sheetCount book) ++ drop (firstEntry (sheetCount book)) lent
 
-    -- "One running tally of moves and cuts is carried through the book.": of the accepted sheets, what `counted` says of each
+    -- "One running tally of moves and cuts is carried through the book."
     unfoldable pub tallyOf : (State → ℕ) → ℕ
-    tallyOf counted = sumTo (sheetCount book) (λ j. cond (takesSheet j) (counted (finals j)) 0)
+    tallyOf counted = overAccepted (λ j. counted (finals j))

@@ -9,3 +9,7 @@ module _ (agents chores : ℕ) where
   -- in all: there are no more rounds than agents
   unfoldable pub mostMoves : ℕ
   mostMoves = agents * roundMoves
+
+-- With 32 agents, and more chores than there may be yet: 4,000. Counters hold it.
+abbrev pub mostEver : ℕ
+mostEver = 3968000
