@@ -11,11 +11,19 @@ pub fn most_moves(sheet: &[u8]) -> u64 {
     u64::from(sheet[0]) * round_moves(sheet)
 }
 
-/// The moves of a share-out are no more than they may be, with so many cuts and
-/// in all. Tells which part of the bound in all they come to.
-pub fn assert_few(sheet: &[u8], moves: u64, cuts: u8) -> f64 {
-    let by_rounds = (u64::from(cuts) + 1) * round_moves(sheet);
-    let few = moves <= by_rounds && moves <= most_moves(sheet);
+/// With so many cuts, and in all.
+fn bounds(sheet: &[u8], cuts: u8) -> [u64; 2] {
+    let rounds = u64::from(cuts) + 1;
+    [rounds * round_moves(sheet), most_moves(sheet)]
+}
+
+/// The moves of a share-out are no more than they may be.
+pub fn assert_few(sheet: &[u8], moves: u64, cuts: u8) {
+    let few = bounds(sheet, cuts).iter().all(|&most| moves <= most);
     assert!(few, "{moves} moves, {cuts} cuts: {sheet:?}");
-    moves as f64 / most_moves(sheet).max(1) as f64
+}
+
+/// Which part of each bound they come to.
+pub fn parts(sheet: &[u8], moves: u64, cuts: u8) -> [f64; 2] {
+    bounds(sheet, cuts).map(|most| moves as f64 / most.max(1) as f64)
 }

@@ -1,7 +1,7 @@
 //! The share-out against the second program: owners, prices, moves, cuts and
 //! all lent memory. No share-out takes more moves than it may.
 
-use compare::bound::assert_few;
+use compare::bound::{assert_few, parts};
 use compare::lent::{assert_all_hold, enough, short, Lengths, Lent};
 use compare::random::{damaged, Random};
 use compare::shapes::{self, Shape};
@@ -41,17 +41,20 @@ fn compared(random: &mut Random, way: Way, sheet: &[u8], lengths: Lengths) -> Sh
         "number, moves, cuts of {sheet:?}, lent {lengths:?}"
     );
     assert_all_hold(&lent, [owners, prices, scratch], sheet);
+    if let ShareOut::Shared { moves, cuts } = answer {
+        assert_few(sheet, moves, cuts);
+    }
     answer
 }
 
 /// How many sheets took a cut, the most moves and cuts of any, and the greatest
-/// part of the bound on moves that any came to.
+/// part of each bound on moves that any came to.
 #[derive(Debug, Default)]
 struct Seen {
     cut: usize,
     moves: u64,
     cuts: u8,
-    part: f64,
+    parts: [f64; 2],
 }
 
 fn compare_all(seed: u64, count: usize, way: Way, sheet: impl Fn(&mut Random) -> Vec<u8>) -> Seen {
@@ -66,7 +69,9 @@ fn compare_all(seed: u64, count: usize, way: Way, sheet: impl Fn(&mut Random) ->
                 seen.cut += usize::from(cuts > 0);
                 seen.moves = seen.moves.max(moves);
                 seen.cuts = seen.cuts.max(cuts);
-                seen.part = seen.part.max(assert_few(&sheet, moves, cuts));
+                for (seen, part) in seen.parts.iter_mut().zip(parts(&sheet, moves, cuts)) {
+                    *seen = part.max(*seen);
+                }
             }
         }
     }
