@@ -4,7 +4,7 @@
 use Prim.Native.Nat.{ℕ, suc, _+_, _-_, _*_, _≤_, _<_}
 use mathlib.Core.Bool.{Bool, true, false, not}
 use mathlib.Core.Path.{_≡_, sym, ap, _∙_}
-use native.Mathlib.Nat.{le-refl, mul-le-mul, mul-le-mul-left}
+use native.Mathlib.Nat.{le-refl, le-of-eq, mul-le-mul, mul-le-mul-left}
 use native.Mathlib.Omega.{arith}
 use lib.Dec.{eqb, leb}
 use borrow.Author.Tests.{le-leb, ne-eqb, eqb-false, not-true}
@@ -41,14 +41,12 @@ but-elim I x p u i e =
     let both = and-elim (above I x p i) (not (eqb i u)) e in
     (both .0, eqb-false i u (not-true (eqb i u) (both .1)))
 
+-- between chains whoever is above the least sum is in no group
+pub quiet-outside : {I : Instance} {x p group : ℕ → ℕ} {cut : ℕ → Bool} → Quiet I p group cut x → (i : ℕ) → i < I .n → leastSum I x p < priceUpToOne (I .m) x p i → group i ≡ 0
+quiet-outside {group} q i hi a = by-less 0 (group i) (λ g. absurd (omega (arith, q .quiet i hi g))) (λ g. omega arith)
+
 module _ {I : Instance} {x p group : ℕ → ℕ} {cut : ℕ → Bool} (S : Sound I) (K : Core I x p group cut) where
   module _ {t w u k : ℕ} (d : Due I x p t w u k) where
-    quiet-giver : Quiet I p group cut x → group w ≡ 0
-    quiet-giver q =
-        by-less 0 (group w)
-        (λ g. absurd (omega (arith, d .giverAbove, q .quiet w (d .giver) g)))
-        (λ g. omega arith)
-
     -- the carrier is just the giver
     module _ {v s : ℕ} (l : Carrying I p group cut x v s) where
       carrier-further : t < s
@@ -64,7 +62,7 @@ module _ {I : Instance} {x p group : ℕ → ℕ} {cut : ℕ → Bool} (S : Soun
 
     -- a cut chore never moves in 2b
     pub chain-uncut : {room : ℕ} → Chain I p group cut x room → cut k ≡ false
-    chain-uncut (settled q r) = free-uncut K k (d .chore) (rw (d .owned) (quiet-giver q))
+    chain-uncut (settled q r) = free-uncut K k (d .chore) (rw (d .owned) (quiet-outside q w (d .giver) (d .giverAbove)))
     chain-uncut (carrying v s l r) = best-uncut S K u k (d .receiver) (receiver-free l) (d .chore) (d .wants)
 
     module _ {y : ℕ → ℕ} (v : Moves (I .m) x y k w u) where
@@ -183,8 +181,7 @@ module _ {I : Instance} {x p group : ℕ → ℕ} {cut : ℕ → Bool} (S : Soun
     where
       outside : (c : ℕ) → c < I .m → above I x p (x c) ≡ true → leb (group (x c)) 0 ≡ true
       outside c l e =
-          le-leb (group (x c)) 0
-          (by-less 0 (group (x c)) (λ g. absurd (omega (arith, is-above I x p (x c) e, q .quiet (x c) (K .owner c l) g))) (λ g. g))
+          le-leb (group (x c)) 0 (le-of-eq (quiet-outside q (x c) (K .owner c l) (is-above I x p (x c) e)))
 
   -- when 2b ends, all is settled
   pub chain-ends : {room : ℕ} → Chain I p group cut x room → due2b I x p ≡ false → Quiet I p group cut x

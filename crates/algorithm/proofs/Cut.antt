@@ -20,6 +20,7 @@ use Rattle.algorithm.specs.Cuts.{Cuts}
 use Rattle.algorithm.proofs.UpToOne.{up-le, sum-holds}
 use Rattle.algorithm.proofs.Best.{free-uncut, best-outside, uncut-best}
 use Rattle.algorithm.proofs.Rings.{least-low, not-due, reachable-closed}
+use Rattle.algorithm.proofs.Chain.{quiet-outside}
 use Rattle.algorithm.proofs.Rising.{least-reachable}
 
 -- whoever is out of reach has more than the least sum
@@ -59,7 +60,7 @@ outside-free {I} {x} {p} {group} K i g h =
 module _ {I : Instance} {x p group : ℕ → ℕ} {cut : ℕ → Bool} (S : Sound I) (K : Core I x p group cut) (Q : Quiet I p group cut x) (idle : due2b I x p ≡ false) {w : ℕ} (agent : w < I .n) (above : leastSum I x p < priceUpToOne (I .m) x p w) where
   -- somebody above the least sum is outside the groups and out of reach
   pub outside : group w ≡ 0
-  outside = by-less 0 (group w) (λ l. absurd (omega (arith, Q .quiet w agent l))) (λ l. omega arith)
+  outside = quiet-outside Q w agent above
 
   pub unreached : reachable I x p w ≡ false
   unreached =
