@@ -71,8 +71,9 @@ extern "C" {
 
 /* The most moves of a share-out of n agents and m chores, whatever its weights
  * and marks: n (n - 1) m, which is 1,800 at 6 x 60 and 198,400 at 32 x 200. It
- * is proved. Where it was measured, no move took more than 1.3 microseconds at
- * 32 x 200, so that no sheet takes longer than about a quarter of a second. */
+ * is proved. How long they take is not: on one machine the slowest of some 1,300
+ * sheets of 32 x 200 took 1.3 microseconds a move, and at that rate 198,400 take
+ * about a quarter of a second, and the 1,800 of 6 x 60 less than a millisecond. */
 #define SHARES_MOST_MOVES(n, m) (SHARES_AS(uint64_t, n) * (SHARES_AS(uint64_t, n) - 1) * SHARES_AS(uint64_t, m))
 
 /* The most stack that each call takes, in bytes, on x86-64. */

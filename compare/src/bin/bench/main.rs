@@ -1,9 +1,10 @@
 //! Times the proved share-out and both checks beside a plain C program's, and
-//! the share-out beside the second program's too. Tells the longest time that a
-//! share-out can take.
+//! the share-out beside the second program's too. Estimates how long the most
+//! moves of a share-out would take.
 
 mod checks;
-mod longest;
+mod most_moves;
+
 mod share_outs;
 mod sheets;
 mod timing;
@@ -21,5 +22,5 @@ fn main() {
     println!();
     checks::table(&mut random);
     println!();
-    longest::table(&mut random);
+    most_moves::table(&mut random);
 }
