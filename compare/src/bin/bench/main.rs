@@ -4,7 +4,6 @@
 
 mod checks;
 mod most_moves;
-
 mod share_outs;
 mod sheets;
 mod timing;
