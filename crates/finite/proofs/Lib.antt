@@ -8,6 +8,7 @@ pub mod Fibres
 pub mod Moves
 pub mod Lists
 pub mod Extremes
+pub mod Sweeps
 pub mod Chosen
 pub mod Running
 pub mod Reach

@@ -7,9 +7,10 @@ use native.Mathlib.Nat.{le-refl, add-zero}
 use native.Mathlib.Omega.{arith}
 use lib.Dec.{eqb}
 use borrow.Author.Tests.{ne-eqb}
-use Rattle.finite.specs.Sums.{sumTo, sumWhere}
+use Rattle.finite.specs.Sums.{sumTo, sumWhere, maxWhere}
 use Rattle.finite.proofs.Tests.{by-test, clash, cond-true, cond-false, cond-cong, cond-mono, cond-scale, cond-same, and-no-right, not-on, not-off, eqb-same}
 use Rattle.finite.proofs.Sums.{sum-next, sum-cong, sum-mono, sum-strict, sum-add, sum-scale, sum-none, sum-change, sum-single, sum-point, sum-less}
+use Rattle.finite.proofs.Extremes.{peak-at-most}
 
 pub where-zero : (t : ℕ → Bool) (f : ℕ → ℕ) → sumWhere 0 t f ≡ 0
 unfolding sumWhere sumTo
@@ -62,6 +63,10 @@ where-strict-test t u f h k l p q s = sum-strict (λ c m. cond-mono (t c) (u c) 
 pub where-point : {n : ℕ} (t : ℕ → Bool) (f : ℕ → ℕ) (k : ℕ) → k < n → t k ≡ true → f k ≤ sumWhere n t f
 unfolding sumWhere
 where-point t f k l p = rw p at (sum-point (λ c. cond (t c) (f c) 0) k l)
+
+-- the greatest is one of those added up
+pub peak-within : (n : ℕ) (t : ℕ → Bool) (f : ℕ → ℕ) → maxWhere n t f ≤ sumWhere n t f
+peak-within n t f = peak-at-most n t (where-point t f)
 
 -- no value counts where the test passes
 pub where-zeros : (n : ℕ) (t : ℕ → Bool) {f : ℕ → ℕ} → ((c : ℕ) → c < n → t c ≡ true → f c ≡ 0) → sumWhere n t f ≡ 0

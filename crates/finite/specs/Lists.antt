@@ -11,6 +11,11 @@ unfoldable pub tabulate : ℕ → (ℕ → ℕ) → List ℕ
 tabulate zero f = []
 tabulate (suc k) f = tabulate k f ++ (f k ∷ [])
 
+-- xs is that list, said entry by entry
+pub record Table (n : ℕ) (f : ℕ → ℕ) (xs : List ℕ) : Type 0 where
+  pub size : length xs ≡ n
+  pub entry : (i : ℕ) → i < n → getD xs i 0 ≡ f i
+
 -- y has m entries, from 1 to n
 pub record Picks (n m : ℕ) (y : List ℕ) : Type 0 where
   pub size : length y ≡ m

@@ -1,0 +1,72 @@
+-- Laws of the sweep: one chore more, and the dearest taken off.
+-- Assumes nothing.
+use Prim.Native.Nat.{ℕ, _+_, _-_, _^_, _≤_, _<_}
+use mathlib.Core.List.{List}
+use mathlib.Core.Path.{_≡_, refl, ap, ap₂, _∙_}
+use native.Mathlib.Nat.{le-of-lt}
+use native.Mathlib.Omega.{arith}
+use lib.ListN.{length, getD, set, replicate}
+use Rattle.finite.specs.Lists.{tabulate}
+use Rattle.finite.proofs.Where.{peak-within}
+use Rattle.finite.proofs.Lists.{tab-length, tab-at}
+use Rattle.finite.proofs.Sweeps.{sums-none, sums-next, sums-bound, tops-none, tops-raised, tops-kept}
+use Rattle.model.specs.Limits.{maxAgents, maxPrice}
+use Rattle.model.specs.Instance.{ownerOf, priceOf}
+use Rattle.model.specs.Fairness.{owns, total}
+use Rattle.model.specs.Prices.{dearest, priceUpToOne}
+use Rattle.totals.specs.Totals.{Held, Added, Summed}
+
+module _ {owners prices sums tops : List ℕ} where
+  -- no chore has been added yet
+  pub added-none : sums ≡ replicate maxAgents 0 → tops ≡ replicate maxAgents 0 → Added 0 owners prices sums tops
+  unfolding total dearest owns
+  added-none s t = record { sum = sums-none (ownerOf owners) (priceOf prices) s; top = tops-none (ownerOf owners) (priceOf prices) t }
+
+  -- the dearest is part of the sum
+  pub added-part : {k : ℕ} → Added k owners prices sums tops → (i : ℕ) → i < maxAgents → getD tops i 0 ≤ getD sums i 0
+  unfolding total dearest
+  added-part {k} a i l = rw (a .sum .entry i l, a .top .entry i l) (peak-within k (owns (ownerOf owners) i) (priceOf prices))
+
+  pub summed : {ups : List ℕ} → Added (length owners) owners prices sums tops → ups ≡ tabulate maxAgents (λ i. getD sums i 0 - getD tops i 0) → Summed owners prices sums ups
+  unfolding priceUpToOne
+  summed a e =
+      record {
+        sum = a .sum;
+        up =
+            record {
+              size = ap length e ∙ tab-length maxAgents (λ i. getD sums i 0 - getD tops i 0);
+              entry = λ i l.
+                  ap (λ xs. getD xs i 0) e ∙ tab-at (λ i. getD sums i 0 - getD tops i 0) i 0 l
+                  ∙ ap₂ (λ s t. s - t) (a .sum .entry i l) (a .top .entry i l);
+            };
+      }
+
+-- chore c, and its owner as the code counts
+module _ {owners prices : List ℕ} (h : Held owners prices) {c : ℕ} (below : c < length owners) where
+  pub owner-room : getD owners c 0 - 1 < maxAgents
+  owner-room = omega (arith, h .numbered c below, h .known c below)
+
+  module _ {sums tops : List ℕ} (a : Added c owners prices sums tops) where
+    -- 4,000 prices of 1,000,000 fit
+    pub sum-fits : getD sums (getD owners c 0 - 1) 0 + getD prices c 0 < 2 ^ 32
+    unfolding total owns priceOf
+    sum-fits =
+        omega (arith, sums-bound (ownerOf owners) (priceOf prices) {b = maxPrice} (a .sum) (λ d l. h .bounded d (omega arith)) (getD owners c 0 - 1) owner-room, h .bounded c below, h .chores)
+
+    -- chore c is dearer than its owner's others
+    pub added-raised : getD tops (getD owners c 0 - 1) 0 < getD prices c 0 → Added (c + 1) owners prices (set sums (getD owners c 0 - 1) (getD sums (getD owners c 0 - 1) 0 + getD prices c 0)) (set tops (getD owners c 0 - 1) (getD prices c 0))
+    unfolding total dearest owns ownerOf priceOf
+    added-raised d =
+        record {
+          sum = sums-next (ownerOf owners) (priceOf prices) refl (a .sum) owner-room refl;
+          top = tops-raised (ownerOf owners) (priceOf prices) refl (a .top) owner-room refl (le-of-lt d);
+        }
+
+    -- it is not
+    pub added-kept : getD prices c 0 ≤ getD tops (getD owners c 0 - 1) 0 → Added (c + 1) owners prices (set sums (getD owners c 0 - 1) (getD sums (getD owners c 0 - 1) 0 + getD prices c 0)) tops
+    unfolding total dearest owns ownerOf priceOf
+    added-kept d =
+        record {
+          sum = sums-next (ownerOf owners) (priceOf prices) refl (a .sum) owner-room refl;
+          top = tops-kept (ownerOf owners) (priceOf prices) refl (a .top) d;
+        }
