@@ -9,7 +9,7 @@ use borrow.Author.Tests.{eq-eqb, eqb-true}
 use Rattle.finite.specs.Search.{Hit}
 use Rattle.finite.specs.Moves.{Moves}
 use Rattle.finite.proofs.Below.{by-same}
-use Rattle.finite.proofs.Where.{where-point, where-positive, where-cong, where-scale-eq}
+use Rattle.finite.proofs.Where.{peak-within, where-positive, where-cong, where-scale-eq}
 use Rattle.finite.proofs.Extremes.{peak-above, peak-at-most, peak-cong, peak-scale}
 use Rattle.finite.proofs.Moves.{moves-same, moves-from, moves-to, moves-other}
 use Rattle.model.specs.Fairness.{owns, total}
@@ -27,7 +27,7 @@ module _ (m : ℕ) (x p : ℕ → ℕ) (i : ℕ) where
 
   dearest-part : dearest m x p i ≤ priceSum m x p i
   unfolding dearest total
-  dearest-part = peak-at-most m (owns x i) (λ c l o. where-point (owns x i) p c l o)
+  dearest-part = peak-within m (owns x i) p
 
   pub up-dearest : priceUpToOne m x p i + dearest m x p i ≡ priceSum m x p i
   unfolding priceUpToOne

@@ -17,7 +17,8 @@ use Rattle.algorithm.proofs.Actions.{passing}
 use Rattle.algorithm.proofs.Machine.{fewer-cuts, moves-bound}
 use Rattle.algorithm.proofs.Begin.{opening-reached}
 use Rattle.algorithm.proofs.Ending.{reached, step-falls, done-reached}
-use Rattle.steps.specs.Turns.{stateOf, Turning}
+use Rattle.steps.specs.declared.Turn.{Turn}
+use Rattle.steps.specs.Turns.{stateOf, named, Turning, Turned}
 use Rattle.allocation.specs.Runs.{Running, Kit}
 use Rattle.steps.proofs.Ready.{reached-ready}
 
@@ -29,9 +30,8 @@ module _ {s : List ℕ} (v : Valid s) {owners prices groups entitled : List ℕ}
   pub state-reached : Reached (asRead s) (stateOf owners prices groups entitled moves cuts stage)
   state-reached = reached (read-sound v) (opening-reached (read-sound v)) (R .count) _ (R .comes)
 
-  pub turning : {likes sums ups : List ℕ} → Kit s likes sums ups → Turning s owners prices groups entitled likes sums ups cuts stage
-  turning k =
-      record { ready = reached-ready v state-reached (k .liking) (k .sumsSized) (k .upsSized); moves = moves; reached = state-reached }
+  pub turning : {likes : List ℕ} → Kit s likes → Turning s owners prices groups entitled likes cuts stage
+  turning k = record { ready = reached-ready v state-reached (k .liking); moves = moves; reached = state-reached }
 
   pub moves-fit : moves ≤ mostEver
   unfolding asRead
@@ -56,9 +56,10 @@ module _ {s : List ℕ} (v : Valid s) {owners prices groups entitled : List ℕ}
   pub passes-down : {owners′ prices′ groups′ entitled′ : List ℕ} {stage′ : ℕ} → step (asRead s) (stateOf owners prices groups entitled moves cuts stage) ≡ busy (stateOf owners′ prices′ groups′ entitled′ moves cuts stage′) → 0 < stage
   passes-down e = passing (asRead s) (stateOf owners prices groups entitled moves cuts stage) e refl refl
 
--- working lists of the same lengths serve as well
-pub kit-on : {s likes sums ups sums′ ups′ : List ℕ} → Kit s likes sums ups → length sums′ ≡ length sums → length ups′ ≡ length ups → Kit s likes sums′ ups′
-kit-on k a b = record { valid = k .valid; liking = k .liking; sumsSized = a ∙ k .sumsSized; upsSized = b ∙ k .upsSized }
+-- one step, by the answer of a turn
+pub stepping : {s owners prices groups entitled owners′ prices′ groups′ entitled′ : List ℕ} {cuts stage : ℕ} {answer r : Turn} (moves : ℕ) → Turned s owners prices groups entitled cuts stage answer owners′ prices′ groups′ entitled′ → answer ≡ r → step (asRead s) (stateOf owners prices groups entitled moves cuts stage) ≡ named r owners′ prices′ groups′ entitled′ moves cuts stage
+stepping {owners′ = owners′} {prices′} {groups′} {entitled′} {cuts} {stage} moves T e =
+    T .steps moves ∙ ap (λ r. named r owners′ prices′ groups′ entitled′ moves cuts stage) e
 
 -- the lists in which a run ends have their lengths
 pub ended-shaped : {s : List ℕ} {x : State} → Valid s → Ends (asRead s) x → Shaped (asRead s) x

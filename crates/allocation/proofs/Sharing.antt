@@ -24,7 +24,7 @@ first-sized {n} {k} {j} xs e q h =
     let z : j - 0 ≡ k = omega arith in
     rw z (length-take-le k xs (rw e h))
 
-module _ {s owners prices groups entitled likes sums ups : List ℕ} (S : Sharing s owners prices) (W : Working s groups entitled likes sums ups) where
+module _ {s owners prices groups entitled likes : List ℕ} (S : Sharing s owners prices) (W : Working s groups entitled likes) where
   pub opening-of : {n m : ℕ} → n ≡ agentsOf s → m ≡ choresOf s → OpenInto s n m owners prices likes
   opening-of a b =
       record {
@@ -35,8 +35,8 @@ module _ {s owners prices groups entitled likes sums ups : List ℕ} (S : Sharin
       }
 
   module _ {owners′ prices′ likes′ : List ℕ} (O : Opened s owners′ prices′ likes′) where
-    pub kit-of : Kit s likes′ sums ups
-    kit-of = record { valid = S .valid; liking = O .liking; sumsSized = W .sumsSized; upsSized = W .upsSized }
+    pub kit-of : Kit s likes′
+    kit-of = record { valid = S .valid; liking = O .liking }
 
     -- no step has been done yet
     pub begins : Running s owners′ prices′ groups entitled 0 0 0

@@ -2,8 +2,6 @@
 use Prim.Native.Nat.{ℕ}
 use mathlib.Core.List.{List}
 use mathlib.Core.Path.{_≡_}
-use lib.ListN.{length}
-use Rattle.model.specs.Limits.{maxAgents}
 use Rattle.model.specs.Sheet.{asRead}
 use Rattle.model.specs.Algorithm.{busy, after, Ends}
 use Rattle.sheet.specs.Valid.{Valid}
@@ -15,11 +13,9 @@ pub record Running (s owners prices groups entitled : List ℕ) (moves cuts stag
   pub comes : after (asRead s) count ≡ busy (stateOf owners prices groups entitled moves cuts stage)
 
 -- what the loop is given beside the run
-pub record Kit (s likes sums ups : List ℕ) : Type 0 where
+pub record Kit (s likes : List ℕ) : Type 0 where
   pub valid : Valid s
   pub liking : Liked (asRead s) likes
-  pub sumsSized : length sums ≡ maxAgents
-  pub upsSized : length ups ≡ maxAgents
 
 -- the run has ended with these lists and counters
 pub record RunEnds (s owners prices groups entitled : List ℕ) (moves cuts : ℕ) : Type 0 where

@@ -3,7 +3,6 @@ use Prim.Native.Nat.{ℕ}
 use mathlib.Core.List.{List}
 use mathlib.Core.Path.{_≡_}
 use lib.ListN.{length, replicate}
-use Rattle.model.specs.Limits.{maxAgents}
 use Rattle.model.specs.Sheet.{agentsOf, choresOf}
 use Rattle.sheet.specs.Valid.{Valid}
 use Rattle.allocation.specs.Runs.{RunEnds}
@@ -13,13 +12,11 @@ pub record Sharing (s owners prices : List ℕ) : Type 0 where
   pub ownersSized : length owners ≡ choresOf s
   pub pricesSized : length prices ≡ choresOf s
 
--- nobody is in a group, no chore is entitled, and there is room for the rest
-pub record Working (s groups entitled likes sums ups : List ℕ) : Type 0 where
+-- nobody is in a group, no chore is entitled, and there is room for who finds what ok
+pub record Working (s groups entitled likes : List ℕ) : Type 0 where
   pub noGroups : groups ≡ replicate (agentsOf s) 0
   pub noneEntitled : entitled ≡ replicate (choresOf s) 0
   pub likesSized : length likes ≡ choresOf s
-  pub sumsSized : length sums ≡ maxAgents
-  pub upsSized : length ups ≡ maxAgents
 
 -- the run has ended with these owners, prices and counters; its groups and entitled marks stay inside
 pub record Shared (s owners prices : List ℕ) (moves cuts : ℕ) : Type 0 where

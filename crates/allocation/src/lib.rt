@@ -32,12 +32,6 @@ fn no_likes() -> [u32; model::MAX_CHORES]
     [0; model::MAX_CHORES]
 }
 
-fn no_sums() -> [u32; model::MAX_AGENTS]
-    ensures { λ r. ⌜ length r ≡ maxAgents ⌝ }
-{
-    [0; model::MAX_AGENTS]
-}
-
 // The opening and the run, with working lists of the lengths that the sheet asks for.
 fn share_with(
     sheet: &[u8],
@@ -46,16 +40,14 @@ fn share_with(
     groups: &mut [u8],
     entitled: &mut [u8],
     likes: &mut [u32],
-    sums: &mut [u32],
-    ups: &mut [u32],
 ) -> Counts
-    requires { ⌜ Sharing (now sheet) (now owners) (now prices) × Working (now sheet) (now groups) (now entitled) (now likes) (now sums) (now ups) ⌝ }
+    requires { ⌜ Sharing (now sheet) (now owners) (now prices) × Working (now sheet) (now groups) (now entitled) (now likes) ⌝ }
     ensures { λ r. ⌜ Shared (now (sheet .entry)) (now (owners .exit)) (now (prices .exit)) (r .moves) (r .cuts) ⌝ }
 {
     let n = sheet::agents(sheet);
     let m = sheet::chores(sheet);
     open(sheet, n, m, owners, prices, likes);
-    run(sheet, owners, prices, groups, entitled, likes, sums, ups)
+    run(sheet, owners, prices, groups, entitled, likes)
 }
 
 // The share-out of a sheet that breaks no rule, into lists of one entry for each chore.
@@ -68,8 +60,6 @@ fn share(sheet: &[u8], owners: &mut [u8], prices: &mut [u32]) -> Counts
     let mut groups = no_groups();
     let mut entitled = none_entitled();
     let mut likes = no_likes();
-    let mut sums = no_sums();
-    let mut ups = no_sums();
     share_with(
         sheet,
         owners,
@@ -77,8 +67,6 @@ fn share(sheet: &[u8], owners: &mut [u8], prices: &mut [u32]) -> Counts
         &mut groups[0..n],
         &mut entitled[0..m],
         &mut likes[0..m],
-        &mut sums,
-        &mut ups,
     )
 }
 

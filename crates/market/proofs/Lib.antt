@@ -1,3 +1,2 @@
-pub mod Adding
 pub mod Rewriting
 pub mod Opens

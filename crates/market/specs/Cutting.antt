@@ -6,15 +6,13 @@ use mathlib.Core.Path.{_≡_}
 use lib.ListN.{length, getD}
 use Rattle.finite.specs.Bits.{bit}
 use Rattle.finite.specs.Lists.{tabulate}
-use Rattle.model.specs.Limits.{maxAgents, maxPrice, maxWeight}
+use Rattle.model.specs.Limits.{maxWeight}
 use Rattle.model.specs.Instance.{ownerOf}
+use Rattle.totals.specs.Totals.{Held}
 
 pub record Cutting (owners prices entitled : List ℕ) (a b : ℕ) : Type 0 where
-  pub pricesSized : length prices ≡ length owners
+  pub held : Held owners prices
   pub entitledSized : length entitled ≡ length owners
-  pub numbered : (c : ℕ) → c < length owners → 0 < getD owners c 0
-  pub known : (c : ℕ) → c < length owners → getD owners c 0 ≤ maxAgents
-  pub bounded : (c : ℕ) → c < length owners → getD prices c 0 ≤ maxPrice
   pub less : a < b
   pub weight : b ≤ maxWeight
 

@@ -1,12 +1,11 @@
 -- What the functions of a step are given: a sheet that breaks no rule, the lists of a state, and for each chore the agents for whom it is ok.
-use Prim.Native.Nat.{ℕ, _≤_, _<_}
+use Prim.Native.Nat.{ℕ, _<_}
 use mathlib.Core.Bool.{Bool}
 use mathlib.Core.List.{List}
 use mathlib.Core.Path.{_≡_}
 use lib.Dec.{eqb}
 use lib.ListN.{length, getD}
 use Rattle.finite.specs.Bits.{SetOf}
-use Rattle.model.specs.Limits.{maxAgents, maxChores, maxPrice}
 use Rattle.model.specs.Instance.{Instance}
 use Rattle.algorithm.specs.Kinds.{ok}
 
@@ -16,16 +15,6 @@ groupOf groups i = getD groups i 0
 
 unfoldable pub entitledOf : List ℕ → ℕ → Bool
 entitledOf entitled c = eqb (getD entitled c 0) 1
-
--- owners and prices of m chores among n agents
-pub record Held (n m : ℕ) (owners prices : List ℕ) : Type 0 where
-  pub agents : n ≤ maxAgents
-  pub chores : m ≤ maxChores
-  pub ownersSized : length owners ≡ m
-  pub pricesSized : length prices ≡ m
-  pub numbered : (c : ℕ) → c < m → 0 < getD owners c 0
-  pub known : (c : ℕ) → c < m → getD owners c 0 ≤ n
-  pub bounded : (c : ℕ) → c < m → getD prices c 0 ≤ maxPrice
 
 -- for each chore the set of agents who find it easy, or of all where nobody does
 pub record Liked (I : Instance) (likes : List ℕ) : Type 0 where

@@ -3,7 +3,7 @@
 use Prim.Native.Nat.{ℕ, _*_, _≤_, _<_}
 use mathlib.Core.Bool.{Bool}
 use mathlib.Core.List.{List}
-use mathlib.Core.Path.{_≡_, refl, sym, ap, _∙_}
+use mathlib.Core.Path.{_≡_, sym, ap, ap₂, _∙_}
 use native.Mathlib.Nat.{le-trans, mul-le-mul}
 use native.Mathlib.Omega.{arith}
 use lib.Dec.{eqb, ltb}
@@ -26,8 +26,8 @@ use Rattle.algorithm.specs.Core.{Core}
 use Rattle.algorithm.specs.Reached.{Reached}
 use Rattle.algorithm.proofs.Best.{best-wanted, price-bound}
 use Rattle.algorithm.proofs.Reading.{read-sound}
-use Rattle.market.specs.Market.{groupOf, entitledOf, Held, Liked}
-use Rattle.market.specs.Results.{Summed}
+use Rattle.totals.specs.Totals.{Held, Summed}
+use Rattle.market.specs.Market.{groupOf, entitledOf, Liked}
 use Rattle.rings.specs.Offers.{Owned, Offered, Asking}
 use Rattle.rings.specs.Search.{Searching}
 use Rattle.rings.proofs.Wanting.{offer-set}
@@ -41,9 +41,9 @@ price-fits {s} v K c h =
     le-trans (price-bound (read-sound v) K c h) square
 
 -- a reached state is ready for a turn
-pub reached-ready : {s owners prices groups entitled likes sums ups : List ℕ} {moves cuts stage : ℕ} → Valid s → Reached (asRead s) (stateOf owners prices groups entitled moves cuts stage) → Liked (asRead s) likes → length sums ≡ maxAgents → length ups ≡ maxAgents → Ready s owners prices groups entitled likes sums ups
+pub reached-ready : {s owners prices groups entitled likes : List ℕ} {moves cuts stage : ℕ} → Valid s → Reached (asRead s) (stateOf owners prices groups entitled moves cuts stage) → Liked (asRead s) likes → Ready s owners prices groups entitled likes
 unfolding asRead groupOf entitledOf group isEntitled
-reached-ready v R liking sums ups =
+reached-ready v R liking =
     record {
       valid = v;
       ownersSized = R .shaped .owners;
@@ -53,11 +53,9 @@ reached-ready v R liking sums ups =
       numbered = R .shaped .numbered;
       core = R .core;
       liking = liking;
-      sumsSized = sums;
-      upsSized = ups;
     }
 
-module _ {s owners prices groups entitled likes sums ups : List ℕ} (R : Ready s owners prices groups entitled likes sums ups) where
+module _ {s owners prices groups entitled likes : List ℕ} (R : Ready s owners prices groups entitled likes) where
   pub sound : Sound (asRead s)
   sound = read-sound (R .valid)
 
@@ -65,17 +63,15 @@ module _ {s owners prices groups entitled likes sums ups : List ℕ} (R : Ready 
   unfolding asRead
   owner-below c h = R .core .owner c h
 
-  pub known : (c : ℕ) → c < choresOf s → getD owners c 0 ≤ agentsOf s
+  known : (c : ℕ) → c < choresOf s → getD owners c 0 ≤ maxAgents
   unfolding ownerOf
-  known c h = omega (arith, owner-below c h, R .numbered c h)
+  known c h = omega (arith, owner-below c h, R .numbered c h, R .valid .agentsFit)
 
-  pub held : Held (agentsOf s) (length owners) owners prices
+  pub held : Held owners prices
   unfolding priceOf
   held =
       record {
-        agents = R .valid .agentsFit;
-        chores = rw (R .ownersSized) (R .valid .choresFit);
-        ownersSized = refl;
+        chores = omega (arith, R .ownersSized, R .valid .choresFit);
         pricesSized = R .pricesSized ∙ sym (R .ownersSized);
         numbered = λ c h. R .numbered c (rw (R .ownersSized) at h);
         known = λ c h. known c (rw (R .ownersSized) at h);
@@ -89,7 +85,7 @@ module _ {s owners prices groups entitled likes sums ups : List ℕ} (R : Ready 
         entitledSized = R .entitledSized ∙ sym (R .ownersSized);
         likesSized = R .liking .likesSized ∙ sym (R .ownersSized);
         numbered = held .numbered;
-        known = λ c h. le-trans (held .known c h) (R .valid .agentsFit);
+        known = held .known;
       }
 
   -- `best` comes to `wanted`
@@ -108,31 +104,31 @@ module _ {s owners prices groups entitled likes sums ups : List ℕ} (R : Ready 
         groupedAre = rw (R .groupsSized) at g;
       }
 
-  module _ {sums′ ups′ : List ℕ} (T : Summed (agentsOf s) (length owners) owners prices sums′ ups′) where
-    pub sum-is : (i : ℕ) → i < agentsOf s → getD sums′ i 0 ≡ priceSum (choresOf s) (ownerOf owners) (priceOf prices) i
-    sum-is i h = T .sum i h ∙ ap (λ m. priceSum m (ownerOf owners) (priceOf prices) i) (R .ownersSized)
+  module _ {sums ups : List ℕ} (T : Summed owners prices sums ups) where
+    pub sum-is : (i : ℕ) → i < agentsOf s → getD sums i 0 ≡ priceSum (choresOf s) (ownerOf owners) (priceOf prices) i
+    sum-is i h = T .sum .entry i (omega (arith, R .valid .agentsFit)) ∙ ap (λ m. priceSum m (ownerOf owners) (priceOf prices) i) (R .ownersSized)
 
-    pub up-is : (i : ℕ) → i < agentsOf s → getD ups′ i 0 ≡ priceUpToOne (choresOf s) (ownerOf owners) (priceOf prices) i
-    up-is i h = T .up i h ∙ ap (λ m. priceUpToOne m (ownerOf owners) (priceOf prices) i) (R .ownersSized)
+    pub up-is : (i : ℕ) → i < agentsOf s → getD ups i 0 ≡ priceUpToOne (choresOf s) (ownerOf owners) (priceOf prices) i
+    up-is i h = T .up .entry i (omega (arith, R .valid .agentsFit)) ∙ ap (λ m. priceUpToOne m (ownerOf owners) (priceOf prices) i) (R .ownersSized)
 
-    pub least-is : {least : ℕ} → least ≡ minTo (agentsOf s) (λ i. getD sums′ i 0) → least ≡ leastSum (asRead s) (ownerOf owners) (priceOf prices)
-    unfolding asRead leastSum
-    least-is e = e ∙ low-cong (agentsOf s) sum-is
+    -- as the code has them, of n agents
+    module _ {n : ℕ} (agents : n ≡ agentsOf s) where
+      least-is : {least : ℕ} → least ≡ minTo n (λ i. getD sums i 0) → least ≡ leastSum (asRead s) (ownerOf owners) (priceOf prices)
+      unfolding asRead leastSum
+      least-is e = e ∙ rw agents (low-cong (agentsOf s) sum-is)
 
-    -- what the search of 2b starts from
-    pub searching : {offers : List ℕ} {least start free grouped : ℕ} → Asking (asRead s) (priceOf prices) groups entitled likes free grouped → Offered owners entitled likes free grouped (length owners) offers → least ≡ minTo (agentsOf s) (λ i. getD sums′ i 0) → SetOf (agentsOf s) start (λ i. eqb (getD sums′ i 0) least) → Searching (asRead s) (ownerOf owners) (priceOf prices) offers ups′ least start
-    unfolding asRead ofLeastSum
-    searching {least = least} a o e b =
-        record {
-          some = R .valid .someAgent;
-          offered = λ i h. offer-set a (rw (R .ownersSized) at o) i h (R .valid .agentsFit);
-          up = up-is;
-          leastIs = least-is e;
-          startIs = set-cong (λ i h. ap (λ v. eqb v least) (sum-is i h) ∙ ap (λ v. eqb (priceSum (choresOf s) (ownerOf owners) (priceOf prices) i) v) (least-is e)) b;
-        }
+      -- what the search of 2b starts from
+      pub searching : {offers : List ℕ} {least start free grouped : ℕ} → Asking (asRead s) (priceOf prices) groups entitled likes free grouped → Offered owners entitled likes free grouped (length owners) offers → least ≡ minTo n (λ i. getD sums i 0) → SetOf n start (λ i. eqb (getD sums i 0) least) → Searching (asRead s) (ownerOf owners) (priceOf prices) offers ups least start
+      unfolding asRead ofLeastSum
+      searching {least = least} a o e b =
+          record {
+            some = R .valid .someAgent;
+            offered = λ i h. offer-set a (rw (R .ownersSized) at o) i h (R .valid .agentsFit);
+            up = up-is;
+            leastIs = least-is e;
+            startIs = set-cong (λ i h. ap₂ eqb (sum-is i h) (least-is e)) (rw agents at b);
+          }
 
-    pub any-is : {least : ℕ} {any : Bool} → least ≡ minTo (agentsOf s) (λ i. getD sums′ i 0) → any ≡ anyBelow (agentsOf s) (λ i. ltb least (getD ups′ i 0)) → any ≡ anyBelow (agentsOf s) (above (asRead s) (ownerOf owners) (priceOf prices))
-    unfolding asRead above
-    any-is {least} e q =
-        q
-        ∙ any-cong (agentsOf s) (λ i h. ap (λ v. ltb least v) (up-is i h) ∙ ap (λ v. ltb v (priceUpToOne (choresOf s) (ownerOf owners) (priceOf prices) i)) (least-is e))
+      pub any-is : {least : ℕ} {any : Bool} → least ≡ minTo n (λ i. getD sums i 0) → any ≡ anyBelow n (λ i. ltb least (getD ups i 0)) → any ≡ anyBelow (agentsOf s) (above (asRead s) (ownerOf owners) (priceOf prices))
+      unfolding asRead above
+      any-is e q = q ∙ rw agents (any-cong (agentsOf s) (λ i h. ap₂ ltb (least-is e) (up-is i h)))

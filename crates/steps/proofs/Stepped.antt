@@ -3,38 +3,32 @@
 use Prim.Native.Nat.{ℕ, _+_, _≤_, _<_}
 use mathlib.Core.Bool.{Bool, true, false, cond}
 use mathlib.Core.List.{List}
-use mathlib.Core.Path.{_≡_, sym, _∙_}
+use mathlib.Core.Path.{_≡_, refl, sym, _∙_}
 use native.Mathlib.Omega.{arith}
-use lib.ListN.{length, getD, set}
+use lib.ListN.{length, getD}
 use Rattle.finite.specs.Bits.{bit}
 use Rattle.finite.specs.Lists.{tabulate}
 use Rattle.model.specs.Limits.{maxAgents}
 use Rattle.model.specs.Instance.{ownerOf, priceOf}
-use Rattle.model.specs.Step2b.{due2b, chore2b}
+use Rattle.model.specs.Step2b.{due2b, receiver2b, chore2b}
 use Rattle.model.specs.Sheet.{agentsOf, choresOf, easyWeight, difficultWeight, asRead}
-use Rattle.model.specs.Algorithm.{busy, done, step}
-use Rattle.market.specs.Cutting.{Cutting, CutPrices}
+use Rattle.algorithm.proofs.Actions.{hands2b, cuts2b, stops2b}
 use Rattle.algorithm.proofs.Machine.{fewer-cuts}
-use Rattle.steps.specs.Turns.{stateOf, Turning}
-use Rattle.steps.specs.Looks.{Look, Handing, lowestOf, choreFor}
+use Rattle.algorithm.proofs.Rings.{due-found}
+use Rattle.market.specs.Cutting.{Cutting, CutPrices}
+use Rattle.steps.specs.declared.Turn.{Turn}
+use Rattle.steps.specs.declared.Turn.the-variants.{Cut, Ended}
+use Rattle.steps.specs.Turns.{stateOf, Turning, Turned}
+use Rattle.steps.specs.Looks.{Look, Handing, HandedOver, lowestOf, choreFor}
 use Rattle.steps.proofs.Ready.{held, owned}
 use Rattle.steps.proofs.Looking.{look-receiver, look-chore}
-use Rattle.steps.proofs.Turned.{receiver-known, chore-known, moved2b, ended2b, cut2b}
+use Rattle.steps.proofs.Turned.{moved, ended, cut-off}
 
-module _ {s owners prices groups entitled likes sums ups : List ℕ} {cuts : ℕ} (T : Turning s owners prices groups entitled likes sums ups cuts 0) where
+module _ {s owners prices groups entitled likes : List ℕ} {cuts : ℕ} (T : Turning s owners prices groups entitled likes cuts 0) where
   pub cutting : Cutting owners prices entitled (easyWeight s) (difficultWeight s)
   cutting =
       let R = T .ready in
-      let h = held R in
-      record {
-        pricesSized = h .pricesSized;
-        entitledSized = owned R .entitledSized;
-        numbered = h .numbered;
-        known = owned R .known;
-        bounded = h .bounded;
-        less = R .valid .easier;
-        weight = R .valid .weightFits;
-      }
+      record { held = held R; entitledSized = owned R .entitledSized; less = R .valid .easier; weight = R .valid .weightFits }
 
   pub cuts-fit : cuts < maxAgents
   unfolding asRead
@@ -49,8 +43,16 @@ module _ {s owners prices groups entitled likes sums ups : List ℕ} {cuts : ℕ
       unfolding asRead
       due = L .searched .due some
 
+      receiver-known : receiver2b (asRead s) (ownerOf owners) (priceOf prices) < agentsOf s
+      unfolding asRead
+      receiver-known = due-found (asRead s) (ownerOf owners) (priceOf prices) (T .ready .valid .someAgent) due .receiver
+
+      chore-known : chore2b (asRead s) (ownerOf owners) (priceOf prices) < choresOf s
+      unfolding asRead
+      chore-known = due-found (asRead s) (ownerOf owners) (priceOf prices) (T .ready .valid .someAgent) due .chore
+
       receiver-below : lowestOf (agentsOf s) takers < agentsOf s
-      receiver-below = rw (look-receiver L some) (receiver-known T 0 due)
+      receiver-below = rw (look-receiver L some) receiver-known
 
       chore-at : choreFor owners entitled likes giver (lowestOf (agentsOf s) takers) free grouped ≡ chore2b (asRead s) (ownerOf owners) (priceOf prices)
       chore-at = look-chore L some size receiver-below (look-receiver L some)
@@ -61,11 +63,16 @@ module _ {s owners prices groups entitled likes sums ups : List ℕ} {cuts : ℕ
             agents = T .ready .valid .agentsFit;
             owned = owned (T .ready);
             receiver = receiver-below;
-            chore = rw (chore-at, size) (chore-known T 0 due);
+            chore = rw (chore-at, size) chore-known;
           }
 
-      pub moves-on : {owners′ : List ℕ} → owners′ ≡ set owners (choreFor owners entitled likes giver (lowestOf (agentsOf s) takers) free grouped) (lowestOf (agentsOf s) takers + 1) → (moves : ℕ) → step (asRead s) (stateOf owners prices groups entitled moves cuts 0) ≡ busy (stateOf owners′ prices groups entitled (moves + 1) cuts 0)
-      moves-on e moves = rw (e, chore-at, look-receiver L some) (moved2b T moves due)
+      pub moves-on : {answer : Turn} {owners′ : List ℕ} → HandedOver (agentsOf s) owners entitled likes giver takers free grouped answer owners′ → Turned s owners prices groups entitled cuts 0 answer owners′ prices groups entitled
+      unfolding asRead
+      moves-on H =
+          rw (H .told)
+          (moved
+          (λ moves. rw (chore-at, look-receiver L some, L .searched .gives some) (hands2b (asRead s) (stateOf owners prices groups entitled moves cuts 0) refl due receiver-known chore-known))
+          (H .made))
 
     module _ (nobody : agentsOf s ≤ giver) where
       end : giver ≡ agentsOf s
@@ -76,9 +83,13 @@ module _ {s owners prices groups entitled likes sums ups : List ℕ} {cuts : ℕ
       unfolding asRead
       none = L .searched .none end
 
-      pub cuts-on : any ≡ true → {prices′ groups′ entitled′ : List ℕ} → CutPrices owners prices entitled prices′ entitled′ reached (easyWeight s) (difficultWeight s) → groups′ ≡ tabulate (length groups) (λ i. cond (bit reached i) (cuts + 1) (getD groups i 0)) → (moves : ℕ) → step (asRead s) (stateOf owners prices groups entitled moves cuts 0) ≡ busy (stateOf owners prices′ groups′ entitled′ moves (cuts + 1) cuts)
+      pub cuts-on : any ≡ true → {a b : ℕ} {prices′ groups′ entitled′ : List ℕ} → a ≡ easyWeight s → b ≡ difficultWeight s → CutPrices owners prices entitled prices′ entitled′ reached a b → groups′ ≡ tabulate (length groups) (λ i. cond (bit reached i) (cuts + 1) (getD groups i 0)) → Turned s owners prices groups entitled cuts 0 Cut owners prices′ groups′ entitled′
       unfolding asRead
-      cuts-on a C g moves = rw g (cut2b T moves (L .searched .all end) none (sym (L .anyIs) ∙ a) C)
+      cuts-on some e d C =
+          cut-off T (L .searched .all end)
+          (λ moves. cuts2b (asRead s) (stateOf owners prices groups entitled moves cuts 0) refl none (sym (L .anyIs) ∙ some))
+          (rw (e, d) at C)
 
-      pub stops-here : any ≡ false → (moves : ℕ) → step (asRead s) (stateOf owners prices groups entitled moves cuts 0) ≡ done (stateOf owners prices groups entitled moves cuts 0)
-      stops-here a moves = ended2b T moves none (sym (L .anyIs) ∙ a)
+      pub stops-here : any ≡ false → Turned s owners prices groups entitled cuts 0 Ended owners prices groups entitled
+      unfolding asRead
+      stops-here calm = ended (λ moves. stops2b (asRead s) (stateOf owners prices groups entitled moves cuts 0) refl none (sym (L .anyIs) ∙ calm))

@@ -1,9 +1,9 @@
 -- What looking for a giver of 2b finds, and what handing a chore over asks.
-use Prim.Native.Nat.{ℕ, _≤_, _<_}
+use Prim.Native.Nat.{ℕ, _+_, _≤_, _<_}
 use mathlib.Core.Bool.{Bool, _&&_}
 use mathlib.Core.List.{List}
 use mathlib.Core.Path.{_≡_}
-use lib.ListN.{length}
+use lib.ListN.{length, set}
 use Rattle.finite.specs.Bits.{bit}
 use Rattle.finite.specs.Search.{anyBelow, firstBelow}
 use Rattle.model.specs.Limits.{maxAgents}
@@ -13,6 +13,8 @@ use Rattle.model.specs.Fairness.{owns}
 use Rattle.model.specs.Step2b.{above}
 use Rattle.rings.specs.Offers.{Owned, wantsChore, Asking}
 use Rattle.rings.specs.Search.{Searched}
+use Rattle.steps.specs.declared.Turn.{Turn}
+use Rattle.steps.specs.declared.Turn.the-variants.{Moved}
 
 -- the search's answer on the state, and the sets of agents in no group (free) and in some group (grouped)
 pub record Look (s owners prices groups entitled likes : List ℕ) (giver takers reached free grouped : ℕ) (any : Bool) : Type 0 where
@@ -35,3 +37,8 @@ pub record Handing (n : ℕ) (owners entitled likes : List ℕ) (w takers free g
   pub owned : Owned owners entitled likes
   pub receiver : lowestOf n takers < n
   pub chore : choreFor owners entitled likes w (lowestOf n takers) free grouped < length owners
+
+-- and has been made
+pub record HandedOver (n : ℕ) (owners entitled likes : List ℕ) (w takers free grouped : ℕ) (answer : Turn) (owners′ : List ℕ) : Type 0 where
+  pub told : answer ≡ Moved (choreFor owners entitled likes w (lowestOf n takers) free grouped) w (lowestOf n takers)
+  pub made : owners′ ≡ set owners (choreFor owners entitled likes w (lowestOf n takers) free grouped) (lowestOf n takers + 1)

@@ -3,10 +3,9 @@ use Prim.Native.Nat.{ℕ, _+_, _-_, _<_}
 use mathlib.Core.List.{List}
 use mathlib.Core.Path.{_≡_}
 use lib.ListN.{length, getD}
-use Rattle.model.specs.Limits.{maxAgents}
 use Rattle.model.specs.Instance.{ownerOf, priceOf}
 use Rattle.model.specs.Sheet.{agentsOf, choresOf, asRead}
-use Rattle.model.specs.Algorithm.{State, Outcome, busy, done}
+use Rattle.model.specs.Algorithm.{State, Action, hand, pass, cut, stop, Outcome, busy, done, action, step}
 use Rattle.sheet.specs.Valid.{Valid}
 use Rattle.algorithm.specs.Core.{Core}
 use Rattle.algorithm.specs.Reached.{Reached}
@@ -20,13 +19,20 @@ stateOf owners prices groups entitled moves cuts stage =
 
 -- the outcome of a step, over the lists that it leaves
 abbrev pub named : Turn → List ℕ → List ℕ → List ℕ → List ℕ → ℕ → ℕ → ℕ → Outcome
-named Moved owners prices groups entitled moves cuts stage = busy (stateOf owners prices groups entitled (moves + 1) cuts stage)
+named (Moved chore giver receiver) owners prices groups entitled moves cuts stage = busy (stateOf owners prices groups entitled (moves + 1) cuts stage)
 named Passed owners prices groups entitled moves cuts stage = busy (stateOf owners prices groups entitled moves cuts (stage - 1))
 named Cut owners prices groups entitled moves cuts stage = busy (stateOf owners prices groups entitled moves (cuts + 1) cuts)
 named Ended owners prices groups entitled moves cuts stage = done (stateOf owners prices groups entitled moves cuts stage)
 
--- the lists of a state with the core invariant, and the working lists of a turn
-pub record Ready (s owners prices groups entitled likes sums ups : List ℕ) : Type 0 where
+-- the action of Algorithm 1 that a turn says it has done
+abbrev pub actionOf : Turn → Action
+actionOf (Moved chore giver receiver) = hand chore giver receiver
+actionOf Passed = pass
+actionOf Cut = cut
+actionOf Ended = stop
+
+-- the lists of a state with the core invariant
+pub record Ready (s owners prices groups entitled likes : List ℕ) : Type 0 where
   pub valid : Valid s
   pub ownersSized : length owners ≡ choresOf s
   pub pricesSized : length prices ≡ choresOf s
@@ -35,11 +41,14 @@ pub record Ready (s owners prices groups entitled likes sums ups : List ℕ) : T
   pub numbered : (c : ℕ) → c < choresOf s → 0 < getD owners c 0
   pub core : Core (asRead s) (ownerOf owners) (priceOf prices) (groupOf groups) (entitledOf entitled)
   pub liking : Liked (asRead s) likes
-  pub sumsSized : length sums ≡ maxAgents
-  pub upsSized : length ups ≡ maxAgents
 
 -- a state that Algorithm 1 reaches on the sheet s
-pub record Turning (s owners prices groups entitled likes sums ups : List ℕ) (cuts stage : ℕ) : Type 0 where
-  pub ready : Ready s owners prices groups entitled likes sums ups
+pub record Turning (s owners prices groups entitled likes : List ℕ) (cuts stage : ℕ) : Type 0 where
+  pub ready : Ready s owners prices groups entitled likes
   pub moves : ℕ
   pub reached : Reached (asRead s) (stateOf owners prices groups entitled moves cuts stage)
+
+-- what a turn leaves: the answer is the action that was due, and the lists are those after one step, however many moves came before
+pub record Turned (s owners prices groups entitled : List ℕ) (cuts stage : ℕ) (answer : Turn) (owners′ prices′ groups′ entitled′ : List ℕ) : Type 0 where
+  pub acts : (moves : ℕ) → action (asRead s) (stateOf owners prices groups entitled moves cuts stage) ≡ actionOf answer
+  pub steps : (moves : ℕ) → step (asRead s) (stateOf owners prices groups entitled moves cuts stage) ≡ named answer owners′ prices′ groups′ entitled′ moves cuts stage

@@ -1,12 +1,7 @@
 // One turn of the loop is one step of Algorithm 1.
-ghost use mathlib.Core.Path.{_≡_};
-ghost use Prim.Native.Nat.{ℕ, _+_, _<_};
-ghost use lib.ListN.{length, set, replicate};
-ghost use Rattle.model.specs.Limits.{maxAgents};
-ghost use Rattle.model.specs.Sheet.{asRead};
-ghost use Rattle.model.specs.Algorithm.{step};
-ghost use Rattle.steps.specs.Turns.{stateOf, named, Ready, Turning};
-ghost use Rattle.steps.specs.Looks.{Look, Handing, lowestOf, choreFor};
+ghost use Prim.Native.Nat.{_<_};
+ghost use Rattle.steps.specs.Turns.{Ready, Turning, Turned};
+ghost use Rattle.steps.specs.Looks.{Look, Handing, HandedOver};
 use market::choices::first_free;
 use market::choices::greatest_in;
 use market::choices::least_after;
@@ -17,15 +12,20 @@ use market::sums::least_of;
 use market::sums::members;
 use market::sums::of_sum;
 use market::sums::others;
-use market::sums::sum_up;
 use market::words::lowest;
 use rings::offers::add_offers;
 use rings::offers::first_wanted;
 use rings::search::search;
+use totals::sum_up;
+use totals::zeros;
 
-// What a step did.
+// What a step did. A move tells its chore, giver and receiver, counted from 0.
 pub enum Turn {
-    Moved,
+    Moved {
+        chore: usize,
+        giver: usize,
+        receiver: usize,
+    },
     Passed,
     Cut,
     Ended,
@@ -41,13 +41,6 @@ struct Seen {
     any: bool,
 }
 
-// Made in a function of its own, so that its entries are one value where it is used.
-fn no_offers() -> [u32; model::MAX_AGENTS]
-    ensures { λ r. ⌜ r ≡ replicate maxAgents 0 ⌝ }
-{
-    [0; model::MAX_AGENTS]
-}
-
 fn look(
     sheet: &[u8],
     owners: &[u8],
@@ -55,22 +48,20 @@ fn look(
     groups: &[u8],
     entitled: &[u8],
     likes: &[u32],
-    sums: &mut [u32],
-    ups: &mut [u32],
 ) -> Seen
-    requires { ⌜ Ready (now sheet) (now owners) (now prices) (now groups) (now entitled) (now likes) (now sums) (now ups) ⌝ }
+    requires { ⌜ Ready (now sheet) (now owners) (now prices) (now groups) (now entitled) (now likes) ⌝ }
     ensures { λ r. ⌜ Look (now (sheet .entry)) (now (owners .entry)) (now (prices .entry)) (now (groups .entry)) (now (entitled .entry)) (now (likes .entry)) (r .giver) (r .takers) (r .reached) (r .free) (r .grouped) (r .any) ⌝ }
 {
     let n = sheet::agents(sheet);
-    sum_up(n, owners, prices, sums, ups);
-    let least = least_of(n, sums);
-    let start = of_sum(n, sums, least);
+    let totals = sum_up(owners, prices);
+    let least = least_of(n, &totals.sums);
+    let start = of_sum(n, &totals.sums, least);
     let free = others(groups);
     let grouped = members(groups);
-    let any = any_above(n, ups, least);
-    let mut offers = no_offers();
+    let any = any_above(n, &totals.ups, least);
+    let mut offers = zeros();
     add_offers(owners, entitled, likes, free, grouped, &mut offers);
-    let found = search(n, &offers, ups, least, start);
+    let found = search(n, &offers, &totals.ups, least, start);
     Seen {
         giver: found.giver,
         takers: found.takers,
@@ -81,25 +72,28 @@ fn look(
     }
 }
 
-// The giver w hands the lowest of the takers the lowest chore that this one wants.
+// The giver hands the lowest of the takers the lowest chore that this one wants.
 fn hand_over(
     n: usize,
     owners: &mut [u8],
     entitled: &[u8],
     likes: &[u32],
-    w: usize,
+    giver: usize,
     takers: u32,
     free: u32,
     grouped: u32,
-)
-    requires { ⌜ Handing n (now owners) (now entitled) (now likes) w takers free grouped ⌝ }
-    ensures { λ r. ⌜ now (owners .exit) ≡ set (now (owners .entry))
-        (choreFor (now (owners .entry)) (now (entitled .entry)) (now (likes .entry)) w (lowestOf n takers) free grouped)
-        (lowestOf n takers + 1) ⌝ }
+) -> Turn
+    requires { ⌜ Handing n (now owners) (now entitled) (now likes) giver takers free grouped ⌝ }
+    ensures { λ r. ⌜ HandedOver n (now (owners .entry)) (now (entitled .entry)) (now (likes .entry)) giver takers free grouped r (now (owners .exit)) ⌝ }
 {
-    let u = lowest(takers, n);
-    let c = first_wanted(owners, entitled, likes, w, u, free, grouped);
-    owners[c] = u as u8 + 1;
+    let receiver = lowest(takers, n);
+    let chore = first_wanted(owners, entitled, likes, giver, receiver, free, grouped);
+    owners[chore] = receiver as u8 + 1;
+    Turn::Moved {
+        chore,
+        giver,
+        receiver,
+    }
 }
 
 // Step 2b, and step 3 where 2b has ended.
@@ -110,20 +104,18 @@ pub fn step_2b(
     groups: &mut [u8],
     entitled: &mut [u8],
     likes: &[u32],
-    sums: &mut [u32],
-    ups: &mut [u32],
     cuts: u8,
 ) -> Turn
-    requires { ⌜ Turning (now sheet) (now owners) (now prices) (now groups) (now entitled) (now likes) (now sums) (now ups) cuts 0 ⌝ }
-    ensures { λ r. ⌜ ((moves : ℕ) → step (asRead (now (sheet .entry))) (stateOf (now (owners .entry)) (now (prices .entry)) (now (groups .entry)) (now (entitled .entry)) moves cuts 0)
-        ≡ named r (now (owners .exit)) (now (prices .exit)) (now (groups .exit)) (now (entitled .exit)) moves cuts 0) ⌝ }
+    requires { ⌜ Turning (now sheet) (now owners) (now prices) (now groups) (now entitled) (now likes) cuts 0 ⌝ }
+    ensures { λ r. ⌜ Turned (now (sheet .entry)) (now (owners .entry)) (now (prices .entry)) (now (groups .entry)) (now (entitled .entry)) cuts 0
+        r (now (owners .exit)) (now (prices .exit)) (now (groups .exit)) (now (entitled .exit)) ⌝ }
 {
     let n = sheet::agents(sheet);
-    let seen = look(sheet, owners, prices, groups, entitled, likes, sums, ups);
+    let seen = look(sheet, owners, prices, groups, entitled, likes);
     let giver = seen.giver;
     let reached = seen.reached;
     if giver < n {
-        hand_over(
+        return hand_over(
             n,
             owners,
             entitled,
@@ -133,7 +125,6 @@ pub fn step_2b(
             seen.free,
             seen.grouped,
         );
-        return Turn::Moved;
     }
     if seen.any {
         let a = sheet::easy_weight(sheet);
@@ -153,25 +144,29 @@ pub fn step_2a(
     groups: &[u8],
     entitled: &[u8],
     likes: &[u32],
-    sums: &mut [u32],
-    ups: &mut [u32],
     cuts: u8,
     stage: u8,
 ) -> Turn
-    requires { ⌜ Turning (now sheet) (now owners) (now prices) (now groups) (now entitled) (now likes) (now sums) (now ups) cuts stage × (0 < stage) ⌝ }
-    ensures { λ r. ⌜ ((moves : ℕ) → step (asRead (now (sheet .entry))) (stateOf (now (owners .entry)) (now (prices .entry)) (now (groups .entry)) (now (entitled .entry)) moves cuts stage)
-        ≡ named r (now (owners .exit)) (now (prices .entry)) (now (groups .entry)) (now (entitled .entry)) moves cuts stage) ⌝ }
+    requires { ⌜ Turning (now sheet) (now owners) (now prices) (now groups) (now entitled) (now likes) cuts stage × (0 < stage) ⌝ }
+    ensures { λ r. ⌜ Turned (now (sheet .entry)) (now (owners .entry)) (now (prices .entry)) (now (groups .entry)) (now (entitled .entry)) cuts stage
+        r (now (owners .exit)) (now (prices .entry)) (now (groups .entry)) (now (entitled .entry)) ⌝ }
 {
     let n = sheet::agents(sheet);
-    sum_up(n, owners, prices, sums, ups);
-    let i = greatest_in(groups, ups, stage);
-    let j = least_after(groups, sums, stage);
-    if i < n {
-        if j < n {
-            if ups[i] > sums[j] {
-                let c = first_free(owners, entitled, i);
-                owners[c] = j as u8 + 1;
-                return Turn::Moved;
+    let totals = sum_up(owners, prices);
+    let sums = totals.sums;
+    let ups = totals.ups;
+    let giver = greatest_in(groups, &ups, stage);
+    let receiver = least_after(groups, &sums, stage);
+    if giver < n {
+        if receiver < n {
+            if ups[giver] > sums[receiver] {
+                let chore = first_free(owners, entitled, giver);
+                owners[chore] = receiver as u8 + 1;
+                return Turn::Moved {
+                    chore,
+                    giver,
+                    receiver,
+                };
             }
         }
     }

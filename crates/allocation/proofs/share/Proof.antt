@@ -19,12 +19,6 @@ none-entitled-requires c κs = search needs
 no-likes-requires : tie.Need-no-likes-requires
 no-likes-requires c κs = search needs
 
-no-sums-requires : tie.Need-no-sums-requires
-no-sums-requires c κs = search needs
-
-no-sums-requires-2 : tie.Need-no-sums-requires-2
-no-sums-requires-2 c κs = search needs
-
 sub-share-with : tie.Need-sub-share-with
 sub-share-with c = search needs
 
@@ -52,22 +46,19 @@ part-likes-start c = search needs
 part-likes-end : tie.Need-part-likes-end
 part-likes-end c = search needs
 
-slice-aggregate-share-with : tie.Need-slice-aggregate-share-with
-slice-aggregate-share-with c = search needs
-
-slice-aggregate-share-with-2 : tie.Need-slice-aggregate-share-with-2
-slice-aggregate-share-with-2 c = search needs
-
 share-with-requires : tie.Need-share-with-requires
 share-with-requires c κs =
-    let valid = c .before .before .before .before .before .before .before .before .before .before .before .before .before .before .before .before .before .pre .valid in (
-      c .before .before .before .before .before .before .before .before .before .before .before .before .before .before .before .before .before .pre,
+    let likes = c .before .before .before .before .before in
+    let entitled = likes .before in
+    let groups = entitled .before in
+    let chores = groups .before in
+    let pre = chores .before .before .before .before .before .pre in
+    let m-is = chores .chores .ensures .is in (
+      pre,
       record {
-        noGroups = first-of (c .before .before .before .before .before .before .before .before .before .before .before .no-groups .ensures) (c .before .before .before .before .before .before .before .before .before .before .before .before .before .agents .ensures .is) (valid .agentsFit);
-        noneEntitled = first-of (c .before .before .before .before .before .before .before .before .before .before .none-entitled .ensures) (c .before .before .before .before .before .before .before .before .before .before .before .before .chores .ensures .is) (valid .choresFit);
-        likesSized = first-sized (c .before .before .before .before .before .before .before .before .before .no-likes .result) (c .before .before .before .before .before .before .before .before .before .no-likes .ensures) (c .before .before .before .before .before .before .before .before .before .before .before .before .chores .ensures .is) (valid .choresFit);
-        sumsSized = c .before .before .before .before .before .before .before .before .no-sums .ensures;
-        upsSized = c .before .before .before .before .before .before .before .no-sums2 .ensures;
+        noGroups = first-of (groups .no-groups .ensures) (chores .before .agents .ensures .is) (pre .valid .agentsFit);
+        noneEntitled = first-of (entitled .none-entitled .ensures) m-is (pre .valid .choresFit);
+        likesSized = first-sized (likes .no-likes .result) (likes .no-likes .ensures) m-is (pre .valid .choresFit);
       },
     )
 
@@ -89,8 +80,6 @@ share-spec =
     no-groups-requires
     none-entitled-requires
     no-likes-requires
-    no-sums-requires
-    no-sums-requires-2
     sub-share-with
     part-groups-start
     part-groups-end
@@ -100,8 +89,6 @@ share-spec =
     sub-share-with-3
     part-likes-start
     part-likes-end
-    slice-aggregate-share-with
-    slice-aggregate-share-with-2
     share-with-requires
     same-length
     same-length-2

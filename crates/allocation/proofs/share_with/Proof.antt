@@ -4,6 +4,10 @@ use Rattle.allocation.proofs.Sharing.{opening-of, kit-of, begins}
 use Rattle.allocation.proofs.share_with.Statement.{statement}
 use Rattle.allocation.proofs.share_with.Tie as tie
 
+-- from the second call back to the start
+abbrev start : tie.After-chores → tie.Start
+start c = c .before .before .before .before .before .before .before .before
+
 agents-requires : tie.Need-agents-requires
 agents-requires c κs = search needs
 
@@ -11,10 +15,16 @@ chores-requires : tie.Need-chores-requires
 chores-requires c κs = search needs
 
 open-requires : tie.Need-open-requires
-open-requires c κs = opening-of (c .before .before .before .before .before .before .before .before .before .before .before .before .before .pre .0) (c .before .before .before .before .before .before .before .before .before .before .before .before .before .pre .1) (c .before .before .before .before .agents .ensures .is) (c .before .before .before .chores .ensures .is)
+open-requires c κs =
+    let read = c .before .before .before in
+    let pre = start read .pre in
+    opening-of (pre .0) (pre .1) (read .before .agents .ensures .is) (read .chores .ensures .is)
 
 run-requires : tie.Need-run-requires
-run-requires c κs = (kit-of (c .before .before .before .before .before .before .before .before .before .before .before .before .before .before .before .before .before .before .before .before .before .before .before .before .before .before .before .pre .0) (c .before .before .before .before .before .before .before .before .before .before .before .before .before .before .before .before .before .before .before .before .before .before .before .before .before .before .before .pre .1) (c .before .before .before .before .before .before .before .before .before .before .before .before .before .«open» .ensures), begins (c .before .before .before .before .before .before .before .before .before .before .before .before .before .before .before .before .before .before .before .before .before .before .before .before .before .before .before .pre .0) (c .before .before .before .before .before .before .before .before .before .before .before .before .before .before .before .before .before .before .before .before .before .before .before .before .before .before .before .pre .1) (c .before .before .before .before .before .before .before .before .before .before .before .before .before .«open» .ensures))
+run-requires c κs =
+    let opened = c .before .before .before .before .before .before .before .before .before .before .before in
+    let pre = start (opened .before .before .before .before) .pre in
+    (kit-of (pre .0) (pre .1) (opened .«open» .ensures), begins (pre .0) (pre .1) (opened .«open» .ensures))
 
 same-length : tie.Need-same-length
 same-length c = search needs
@@ -31,14 +41,10 @@ same-length-4 c = search needs
 same-length-5 : tie.Need-same-length-5
 same-length-5 c = search needs
 
-same-length-6 : tie.Need-same-length-6
-same-length-6 c = search needs
-
-same-length-7 : tie.Need-same-length-7
-same-length-7 c = search needs
-
 returns : tie.Need-returns
-returns c = record { groups = _; entitled = _; ended = c .before .before .before .before .before .before .before .before .before .before .before .before .run .ensures }
+returns c =
+    let ended = c .before .before .before .before .before .before .before .before in
+    record { groups = _; entitled = _; ended = ended .run .ensures }
 
 pub share-with-spec : {M : Type 1} → statement M
 share-with-spec =
@@ -53,6 +59,4 @@ share-with-spec =
     same-length-3
     same-length-4
     same-length-5
-    same-length-6
-    same-length-7
     returns)

@@ -1,5 +1,6 @@
 -- `steps::hand_over` meets its contract.
 use Prim.Native.Nat.{_<_}
+use mathlib.Core.Path.{refl}
 use native.Mathlib.Omega.{arith}
 use borrow.Author.Needs.{needs}
 use Rattle.model.specs.Limits.{maxAgents}
@@ -10,30 +11,35 @@ use Rattle.steps.proofs.hand_over.Tie as tie
 lowest-requires : tie.Need-lowest-requires
 lowest-requires c κs = search needs
 
-first-wanted-requires : tie.Need-first-wanted-requires
+-- the receiver is an agent
+below : (c : tie.After-lowest) → c .lowest .result < maxAgents
 unfolding lowestOf
-first-wanted-requires c κs = (c .before .before .before .before .before .pre .owned, omega (arith, c .before .lowest .ensures, c .before .before .before .before .before .pre .receiver, c .before .before .before .before .before .pre .agents))
+below c = let start = c .before .before .before .before in omega (arith, c .lowest .ensures, start .pre .receiver, start .pre .agents)
 
-below : (c : tie.After-first-wanted) → c .before .before .lowest .result < maxAgents
-unfolding lowestOf
-below c = omega (arith, c .before .before .lowest .ensures, c .before .before .before .before .before .before .pre .receiver, c .before .before .before .before .before .before .pre .agents)
+first-wanted-requires : tie.Need-first-wanted-requires
+first-wanted-requires c κs = let start = c .before .before .before .before .before in (start .pre .owned, below (c .before))
 
 cast-owners : tie.Need-cast-owners
-cast-owners c = record { fits = omega (arith, below c) }
+cast-owners c = record { fits = omega (arith, below (c .before .before)) }
 
 add-owners : tie.Need-add-owners
-add-owners c = record { fits = omega (arith, below c) }
+add-owners c = record { fits = omega (arith, below (c .before .before)) }
 
 slice-write-owners : tie.Need-slice-write-owners
 unfolding lowestOf choreFor
-slice-write-owners c = rw (c .first-wanted .ensures, c .before .before .lowest .ensures) (c .before .before .before .before .before .before .pre .chore)
+slice-write-owners c =
+    let found = c .before .before in
+    let start = found .before .before .before .before in
+    rw (c .first-wanted .ensures, found .lowest .ensures) (start .pre .chore)
 
 same-length : tie.Need-same-length
 same-length c = search needs
 
 returns : tie.Need-returns
 unfolding lowestOf choreFor
-returns c = rw (c .first-wanted .ensures, c .before .before .lowest .ensures)
+returns c =
+    let found = c .before .before in
+    record { told = rw (c .first-wanted .ensures, found .lowest .ensures); made = rw (c .first-wanted .ensures, found .lowest .ensures) }
 
 pub hand-over-spec : {M : Type 1} → statement M
 hand-over-spec =

@@ -1,20 +1,49 @@
+-- `steps::step_2a` meets its contract.
 use mathlib.Core.Path.{refl}
 use borrow.Author.Needs.{needs}
 use Rattle.steps.proofs.Ready.{held, owned}
-use Rattle.steps.proofs.Staged.{passes-giver, passes-receiver, passes-sum, chore-there, hands-on}
+use Rattle.steps.proofs.Staged.{Chose, passes-giver, passes-receiver, passes-sum, chore-there, hands-on}
 use Rattle.steps.proofs.step_2a.Statement.{statement}
 use Rattle.steps.proofs.step_2a.Tie as tie
+
+-- from the first call back to the start, and from the choices to the sums that they go by
+abbrev start : tie.After-agents → tie.Start
+start c = c .before .before .before .before .before .before .before
+
+abbrev summed : tie.After-least-after → tie.After-sum-up
+summed c = c .before .before .before .before .before .before
+
+choices :
+    (c : tie.After-least-after)
+    → let read = summed c .before .before in
+    let args = start read .args in
+    let totals = summed c .sum-up .result in
+    Chose (args .sheet .now) (args .owners .now) (args .prices .now) (args .groups .now) (args .entitled .now) (args .likes .now) (args .cuts) (args .stage) (read .agents .result) (totals .sums) (totals .ups) (c .before .before .greatest-in .result) (c .least-after .result)
+choices c =
+    let read = summed c .before .before in
+    record {
+      turning = start read .pre .0;
+      some = start read .pre .1;
+      agents = read .agents .ensures .is;
+      summed = summed c .sum-up .ensures;
+      giver = c .before .before .greatest-in .ensures;
+      receiver = c .least-after .ensures;
+    }
 
 agents-requires : tie.Need-agents-requires
 agents-requires c κs = search needs
 
 sum-up-requires : tie.Need-sum-up-requires
-sum-up-requires c κs =
-    let R = c .before .before .before .before .before .before .before .before .before .before .before .before .pre .0 .ready in
-    rw (c .before .before .before .agents .ensures .is) (record { held = held R; sums-sized = R .sumsSized; ups-sized = R .upsSized })
+sum-up-requires c κs = held (start (c .before) .pre .0 .ready)
+
+slice-aggregate-greatest-in : tie.Need-slice-aggregate-greatest-in
+slice-aggregate-greatest-in c = search needs
 
 greatest-in-requires : tie.Need-greatest-in-requires
 greatest-in-requires c κs = search needs
+
+slice-aggregate-least-after : tie.Need-slice-aggregate-least-after
+slice-aggregate-least-after c = search needs
 
 least-after-requires : tie.Need-least-after-requires
 least-after-requires c κs = search needs
@@ -22,18 +51,20 @@ least-after-requires c κs = search needs
 mul-if3 : tie.Need-mul-if3
 mul-if3 c = search needs
 
-slice-read-if3 : tie.Need-slice-read-if3
-slice-read-if3 c = search needs
+array-read-if3 : tie.Need-array-read-if3
+array-read-if3 c = search needs
 
 mul-if3-2 : tie.Need-mul-if3-2
 mul-if3-2 c = search needs
 
-slice-read-if3-2 : tie.Need-slice-read-if3-2
-slice-read-if3-2 c = search needs
+array-read-if3-2 : tie.Need-array-read-if3-2
+array-read-if3-2 c = search needs
 
 first-free-requires : tie.Need-first-free-requires
 first-free-requires c κs =
-    let R = c .before .before .before .before .before .before .before .before .before .before .before .before .before .before .before .before .before .before .before .before .before .before .before .before .before .before .before .pre .0 .ready in (owned R .entitledSized, held R .numbered)
+    let chose = c .before .before .before .before in
+    let ready = start (summed chose .before .before) .pre .0 .ready in
+    (owned ready .entitledSized, held ready .numbered)
 
 cast-owners : tie.Need-cast-owners
 cast-owners c = search needs
@@ -42,55 +73,36 @@ add-owners : tie.Need-add-owners
 add-owners c = search needs
 
 slice-write-owners : tie.Need-slice-write-owners
-slice-write-owners c = chore-there (c .before .before .before .before .before .before .before .before .before .before .before .before .before .before .before .before .before .before .before .before .before .before .before .before .before .before .before .before .pre .0) (c .before .before .before .before .before .before .before .before .before .before .before .before .before .before .before .before .before .before .before .before .before .before .before .before .before .before .before .before .pre .1) (rw (c .before .before .before .before .before .before .before .before .before .before .before .before .before .before .before .before .before .before .before .agents .ensures .is) at (c .before .before .before .before .before .before .before .before .before .before .before .before .before .before .before .sum-up .ensures)) (c .before .before .before .before .before .before .before .before .before .greatest-in .ensures) (c .before .before .before .before .before .before .before .least-after .ensures) (rw (c .before .before .before .before .before .before .before .before .before .before .before .before .before .before .before .before .before .before .before .agents .ensures .is) at (c .before .before .before .before .before .before .if1 .taken)) (rw (c .before .before .before .before .before .before .before .before .before .before .before .before .before .before .before .before .before .before .before .agents .ensures .is) at (c .before .before .before .before .before .if2 .taken)) (c .before .before .if3 .taken) (c .first-free .ensures)
+slice-write-owners c =
+    let due = c .before .before in
+    chore-there (choices (due .before .before .before)) (due .before .before .if1 .taken) (due .before .if2 .taken) (due .if3 .taken) (c .first-free .ensures)
 
 same-length : tie.Need-same-length
 same-length c = search needs
 
+returns : tie.Need-returns
+returns c =
+    let due = c .before .before in
+    hands-on (choices (due .before .before .before)) (due .before .before .if1 .taken) (due .before .if2 .taken) (due .if3 .taken) (c .first-free .ensures) refl
+
 same-length-2 : tie.Need-same-length-2
 same-length-2 c = search needs
+
+returns-2 : tie.Need-returns-2
+returns-2 c =
+    passes-sum (choices (c .before .before .before)) (c .before .before .if1 .taken) (c .before .if2 .taken) (c .if3 .left)
 
 same-length-3 : tie.Need-same-length-3
 same-length-3 c = search needs
 
-returns : tie.Need-returns
-returns c = hands-on (c .before .before .before .before .before .before .before .before .before .before .before .before .before .before .before .before .before .before .before .before .before .before .before .before .before .before .before .before .pre .0) (c .before .before .before .before .before .before .before .before .before .before .before .before .before .before .before .before .before .before .before .before .before .before .before .before .before .before .before .before .pre .1) (rw (c .before .before .before .before .before .before .before .before .before .before .before .before .before .before .before .before .before .before .before .agents .ensures .is) at (c .before .before .before .before .before .before .before .before .before .before .before .before .before .before .before .sum-up .ensures)) (c .before .before .before .before .before .before .before .before .before .greatest-in .ensures) (c .before .before .before .before .before .before .before .least-after .ensures) (rw (c .before .before .before .before .before .before .before .before .before .before .before .before .before .before .before .before .before .before .before .agents .ensures .is) at (c .before .before .before .before .before .before .if1 .taken)) (rw (c .before .before .before .before .before .before .before .before .before .before .before .before .before .before .before .before .before .before .before .agents .ensures .is) at (c .before .before .before .before .before .if2 .taken)) (c .before .before .if3 .taken) (c .first-free .ensures) refl
+returns-3 : tie.Need-returns-3
+returns-3 c = passes-receiver (choices (c .before .before)) (c .if2 .left)
 
 same-length-4 : tie.Need-same-length-4
 same-length-4 c = search needs
 
-same-length-5 : tie.Need-same-length-5
-same-length-5 c = search needs
-
-same-length-6 : tie.Need-same-length-6
-same-length-6 c = search needs
-
-returns-2 : tie.Need-returns-2
-returns-2 c = passes-sum (c .before .before .before .before .before .before .before .before .before .before .before .before .before .before .before .before .before .before .before .before .before .before .before .before .before .before .pre .0) (c .before .before .before .before .before .before .before .before .before .before .before .before .before .before .before .before .before .before .before .before .before .before .before .before .before .before .pre .1) (rw (c .before .before .before .before .before .before .before .before .before .before .before .before .before .before .before .before .before .agents .ensures .is) at (c .before .before .before .before .before .before .before .before .before .before .before .before .before .sum-up .ensures)) (c .before .before .before .before .before .before .before .greatest-in .ensures) (c .before .before .before .before .before .least-after .ensures) (rw (c .before .before .before .before .before .before .before .before .before .before .before .before .before .before .before .before .before .agents .ensures .is) at (c .before .before .before .before .if1 .taken)) (rw (c .before .before .before .before .before .before .before .before .before .before .before .before .before .before .before .before .before .agents .ensures .is) at (c .before .before .before .if2 .taken)) (c .if3 .left)
-
-same-length-7 : tie.Need-same-length-7
-same-length-7 c = search needs
-
-same-length-8 : tie.Need-same-length-8
-same-length-8 c = search needs
-
-same-length-9 : tie.Need-same-length-9
-same-length-9 c = search needs
-
-returns-3 : tie.Need-returns-3
-returns-3 c = passes-receiver (c .before .before .before .before .before .before .before .before .before .before .before .before .before .before .before .before .before .before .before .before .before .before .before .pre .0) (c .before .before .before .before .before .before .before .before .before .before .before .before .before .before .before .before .before .before .before .before .before .before .before .pre .1) (rw (c .before .before .before .before .before .before .before .before .before .before .before .before .before .before .agents .ensures .is) at (c .before .before .before .before .before .before .before .before .before .before .sum-up .ensures)) (c .before .before .before .before .greatest-in .ensures) (c .before .before .least-after .ensures) (rw (c .before .before .before .before .before .before .before .before .before .before .before .before .before .before .agents .ensures .is) at (c .if2 .left))
-
-same-length-10 : tie.Need-same-length-10
-same-length-10 c = search needs
-
-same-length-11 : tie.Need-same-length-11
-same-length-11 c = search needs
-
-same-length-12 : tie.Need-same-length-12
-same-length-12 c = search needs
-
 returns-4 : tie.Need-returns-4
-returns-4 c = passes-giver (c .before .before .before .before .before .before .before .before .before .before .before .before .before .before .before .before .before .before .before .before .before .before .pre .0) (c .before .before .before .before .before .before .before .before .before .before .before .before .before .before .before .before .before .before .before .before .before .before .pre .1) (rw (c .before .before .before .before .before .before .before .before .before .before .before .before .before .agents .ensures .is) at (c .before .before .before .before .before .before .before .before .before .sum-up .ensures)) (c .before .before .before .greatest-in .ensures) (c .before .least-after .ensures) (rw (c .before .before .before .before .before .before .before .before .before .before .before .before .before .agents .ensures .is) at (c .if1 .left))
+returns-4 c = passes-giver (choices (c .before)) (c .if1 .left)
 
 pub step-2a-spec : {M : Type 1} → statement M
 step-2a-spec =
@@ -98,29 +110,23 @@ step-2a-spec =
     (tie.spec
     agents-requires
     sum-up-requires
+    slice-aggregate-greatest-in
     greatest-in-requires
+    slice-aggregate-least-after
     least-after-requires
     mul-if3
-    slice-read-if3
+    array-read-if3
     mul-if3-2
-    slice-read-if3-2
+    array-read-if3-2
     first-free-requires
     cast-owners
     add-owners
     slice-write-owners
     same-length
-    same-length-2
-    same-length-3
     returns
-    same-length-4
-    same-length-5
-    same-length-6
+    same-length-2
     returns-2
-    same-length-7
-    same-length-8
-    same-length-9
+    same-length-3
     returns-3
-    same-length-10
-    same-length-11
-    same-length-12
+    same-length-4
     returns-4)

@@ -32,12 +32,12 @@ cast-has : tie.Need-cast-has Inv-loop μ-loop
 cast-has c = omega (arith, c .shared-slice-known2 .given (c .before .before .loop .c))
 
 sub-has : tie.Need-sub-has Inv-loop μ-loop
-sub-has c = c .before .before .before .before .before .before .pre .numbered (c .before .before .loop .c) (omega arith)
+sub-has c = c .before .before .before .before .before .before .pre .held .numbered (c .before .before .loop .c) (omega arith)
 
 has-requires : tie.Need-has-requires Inv-loop μ-loop
 has-requires c κs =
     let l : c .before .before .loop .c < length (c .before .before .before .before .before .before .args .owners .now) = omega arith in
-    omega (arith, c .before .before .before .before .before .before .pre .numbered (c .before .before .loop .c) l, c .before .before .before .before .before .before .pre .known (c .before .before .loop .c) l)
+    omega (arith, c .before .before .before .before .before .before .pre .held .numbered (c .before .before .loop .c) l, c .before .before .before .before .before .before .pre .held .known (c .before .before .loop .c) l)
 
 mul-prices : tie.Need-mul-prices Inv-loop μ-loop
 mul-prices c = search needs
@@ -51,7 +51,7 @@ mul-prices-2 c =
     let at = c .before .before .before .before .before .loop in
     let pre = c .before .before .before .before .before .before .before .before .before .pre in
     let l : at .c < length (c .before .before .before .before .before .before .before .before .before .args .owners .now) = omega arith in
-    let p : getD (at .prices) (at .c) 0 ≤ maxPrice = omega (arith, at .inv .1 .rest (at .c) (le-refl (at .c)), pre .bounded (at .c) l) in
+    let p : getD (at .prices) (at .c) 0 ≤ maxPrice = omega (arith, at .inv .1 .rest (at .c) (le-refl (at .c)), pre .held .bounded (at .c) l) in
     let w : c .before .before .before .before .before .before .before .before .before .args .a ≤ maxWeight = omega (arith, pre .less, pre .weight) in
     omega (arith, mul-le-mul p w, mul-le-mul p (pre .weight))
 
@@ -79,7 +79,7 @@ loop-again c =
     let at = c .before .before .before .before .loop in
     let pre = c .before .before .before .before .before .before .before .before .pre in
     let l : at .c < length (c .before .before .before .before .before .before .before .before .args .owners .now) = omega arith in
-    let lp : at .c < length (c .before .before .before .before .before .before .before .before .args .prices .now) = omega (arith, pre .pricesSized) in
+    let lp : at .c < length (c .before .before .before .before .before .before .before .before .args .prices .now) = omega (arith, pre .held .pricesSized) in
     let le : at .c < length (c .before .before .before .before .before .before .before .before .args .entitled .now) = omega (arith, pre .entitledSized) in
     let e = sym (c .before .has .ensures) in
     let price = ap (λ p. p * c .before .before .before .before .before .before .before .before .args .a / c .before .before .before .before .before .before .before .before .args .b) (at .inv .1 .rest (at .c) (le-refl (at .c))) in (
@@ -103,7 +103,7 @@ returns c =
     let pre = c .before .before .before .before .before .pre in
     let end : c .before .loop .c ≡ length (c .before .before .before .before .before .args .owners .now) = omega arith in
     record {
-      newPrices = rewritten-all (rw end at (c .before .loop .inv .1)) (pre .pricesSized);
+      newPrices = rewritten-all (rw end at (c .before .loop .inv .1)) (pre .held .pricesSized);
       newEntitled = rewritten-all (rw end at (c .before .loop .inv .2)) (pre .entitledSized);
     }
 
