@@ -3,7 +3,6 @@
 use Prim.Native.Nat.{ℕ, _+_, _-_, _^_, _≤_, _<_}
 use mathlib.Core.List.{List}
 use mathlib.Core.Path.{_≡_, refl, ap, ap₂, _∙_}
-use native.Mathlib.Nat.{le-of-lt}
 use native.Mathlib.Omega.{arith}
 use lib.ListN.{length, getD, set, replicate}
 use Rattle.finite.specs.Lists.{tabulate}
@@ -53,16 +52,16 @@ module _ {owners prices : List ℕ} (h : Held owners prices) {c : ℕ} (below : 
     sum-fits =
         omega (arith, sums-bound (ownerOf owners) (priceOf prices) {b = maxPrice} (a .sum) (λ d l. h .bounded d (omega arith)) (getD owners c 0 - 1) owner-room, h .bounded c below, h .chores)
 
-    -- chore c is dearer than its owner's others
-    pub added-raised : getD tops (getD owners c 0 - 1) 0 < getD prices c 0 → Added (c + 1) owners prices (set sums (getD owners c 0 - 1) (getD sums (getD owners c 0 - 1) 0 + getD prices c 0)) (set tops (getD owners c 0 - 1) (getD prices c 0))
+    -- chore c is as dear as any of its owner's
+    pub added-raised : getD tops (getD owners c 0 - 1) 0 ≤ getD prices c 0 → Added (c + 1) owners prices (set sums (getD owners c 0 - 1) (getD sums (getD owners c 0 - 1) 0 + getD prices c 0)) (set tops (getD owners c 0 - 1) (getD prices c 0))
     unfolding total dearest owns ownerOf priceOf
     added-raised d =
         record {
           sum = sums-next (ownerOf owners) (priceOf prices) refl (a .sum) owner-room refl;
-          top = tops-raised (ownerOf owners) (priceOf prices) refl (a .top) owner-room refl (le-of-lt d);
+          top = tops-raised (ownerOf owners) (priceOf prices) refl (a .top) owner-room refl d;
         }
 
-    -- it is not
+    -- or is not dearer
     pub added-kept : getD prices c 0 ≤ getD tops (getD owners c 0 - 1) 0 → Added (c + 1) owners prices (set sums (getD owners c 0 - 1) (getD sums (getD owners c 0 - 1) 0 + getD prices c 0)) tops
     unfolding total dearest owns ownerOf priceOf
     added-kept d =

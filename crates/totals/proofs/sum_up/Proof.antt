@@ -89,8 +89,8 @@ loop-again c =
     let held = turn .before .before .before .before .before .before .pre in
     let added = turn .before .loop .inv .1 in
     ⊎-elim
-    (λ w. (omega arith, rw (w .1) (added-raised held (omega arith) added (w .0 .taken))))
-    (λ w. (omega arith, rw (w .1) (added-kept held (omega arith) added (w .0 .left))))
+    (λ w. (omega arith, rw (w .1) (added-raised held (omega arith) added (omega (arith, w .0 .taken)))))
+    (λ w. (omega arith, rw (w .1) (added-kept held (omega arith) added (omega (arith, w .0 .left)))))
     (c .if1 .came)
 
 without-requires : tie.Need-without-requires Inv-loop μ-loop
