@@ -1,41 +1,34 @@
 // Evenness: the first agent that is worse off than another although its costliest chore is taken off.
 
 ghost use mathlib.Core.Path.{_≡_};
-ghost use Prim.Native.Nat.{_≤_, _<_};
+ghost use Prim.Native.Nat.{_<_};
 ghost use mathlib.Core.Bool.{cond};
-ghost use lib.Dec.{ltb};
-ghost use lib.ListN.{getD, replicate};
 ghost use Rattle.finite.specs.Search.{firstBelow};
+ghost use Rattle.finite.specs.Lists.{Table};
 ghost use Rattle.model.specs.Limits.{maxAgents};
 ghost use Rattle.model.specs.Instance.{ownerOf};
 ghost use Rattle.model.specs.Sheet.{agentsOf, easyWeight, difficultWeight, asMarked};
+ghost use Rattle.model.specs.Fairness.{costTo};
 ghost use Rattle.model.specs.Verdicts.{envies, firstOfPair};
 ghost use Rattle.welfare.specs.Waste.{burdened};
 ghost use Rattle.given.specs.Given.{Given};
-ghost use Rattle.evenness.specs.Sums.{Summed};
 
-// Made in a function of its own, so that its entries are one value where it is used.
-fn no_sums() -> [u32; model::MAX_AGENTS]
-    ensures { λ r. ⌜ r ≡ replicate maxAgents 0 ⌝ }
-{
-    [0u32; model::MAX_AGENTS]
-}
-
-// Adds each chore, at what it costs agent i, to the sum of its owner.
-fn add_costs(sheet: &[u8], owners: &[u8], m: usize, i: usize, sums: &mut [u32; model::MAX_AGENTS])
+// For each agent what its chores cost, or would cost, agent i: each chore's cost is added to the sum of its owner.
+fn costs_to(sheet: &[u8], owners: &[u8], m: usize, i: usize) -> [u32; model::MAX_AGENTS]
     requires { ⌜ Given (now sheet) (now owners) (agentsOf (now sheet)) m ⌝ }
     requires { ⌜ i < agentsOf (now sheet) ⌝ }
-    requires { ⌜ Summed (asMarked (now sheet)) (ownerOf (now owners)) i 0 (now sums) ⌝ }
-    ensures { λ _. ⌜ Summed (asMarked (now (sheet .entry))) (ownerOf (now (owners .entry))) i m (now (sums .exit)) ⌝ }
+    ensures { λ r. ⌜ Table maxAgents (costTo (asMarked (now (sheet .entry))) (ownerOf (now (owners .entry))) i) r ⌝ }
 {
     let a = sheet::easy_weight(sheet);
     let b = sheet::difficult_weight(sheet);
+    let mut sums = totals::zeros();
     let mut c = 0;
     while c < m {
         let j = given::owner(owners, c);
         sums[j] += given::cost(sheet, m, a, b, i, c);
         c += 1;
     }
+    sums
 }
 
 // What is taken off for agent i: the weight of its costliest chore. Without chores i envies nobody, and either weight will do.
@@ -53,36 +46,20 @@ fn costliest(sheet: &[u8], owners: &[u8], m: usize, i: usize) -> u32
     }
 }
 
-// The first of n sums that is less than the bound, n where there is none.
-fn first_less(sums: &[u32; model::MAX_AGENTS], n: usize, bound: u32) -> usize
-    requires { ⌜ n ≤ maxAgents ⌝ }
-    ensures { λ r. ⌜ r ≡ firstBelow n (λ j. ltb (getD (now (sums .entry)) j 0) bound) ⌝ }
-{
-    let mut j = 0;
-    while j < n {
-        if sums[j] < bound {
-            return j;
-        }
-        j += 1;
-    }
-    n
-}
-
 // The first agent that agent i envies, n where there is none.
 pub fn first_envied(sheet: &[u8], owners: &[u8], n: usize, m: usize, i: usize) -> usize
     requires { ⌜ Given (now sheet) (now owners) n m ⌝ }
     requires { ⌜ i < n ⌝ }
     ensures { λ r. ⌜ r ≡ firstBelow n (envies (asMarked (now (sheet .entry))) (ownerOf (now (owners .entry))) i) ⌝ }
 {
-    let mut sums = no_sums();
-    add_costs(sheet, owners, m, i, &mut sums);
+    let sums = costs_to(sheet, owners, m, i);
     let own = sums[i];
     let off = costliest(sheet, owners, m, i);
     // Nothing is left of what i's chores cost: nobody's cost less.
     if own <= off {
         return n;
     }
-    first_less(&sums, n, own - off)
+    totals::first_below(n, &sums, own - off)
 }
 
 // The first agent that envies another, n where there is none.

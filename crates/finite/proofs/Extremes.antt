@@ -83,9 +83,6 @@ pub peak-next : (k : ℕ) (t : ℕ → Bool) (f : ℕ → ℕ) → maxWhere (k +
 unfolding maxWhere
 peak-next k t f = top-next k (λ i. cond (t i) (f i) 0)
 
-pub peak-hit : (k : ℕ) (t : ℕ → Bool) (f : ℕ → ℕ) → t k ≡ true → maxWhere (k + 1) t f ≡ max (maxWhere k t f) (f k)
-peak-hit k t f h = rw (peak-next, h)
-
 pub peak-miss : (k : ℕ) (t : ℕ → Bool) (f : ℕ → ℕ) → t k ≡ false → maxWhere (k + 1) t f ≡ maxWhere k t f
 peak-miss k t f h = rw (peak-next, h) (omega arith)
 

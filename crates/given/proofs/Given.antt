@@ -11,6 +11,7 @@ use borrow.Author.Tests.{eq-eqb, ne-eqb, lt-ltb, le-ltb, le-leb, lt-leb}
 use Rattle.finite.specs.Lists.{Picks}
 use Rattle.finite.proofs.Tests.{and-intro, and-no-left, and-no-right}
 use Rattle.finite.proofs.Search.{all-zero, all-next, all-fails-intro}
+use Rattle.model.specs.Limits.{maxAgents}
 use Rattle.model.specs.Instance.{cost, ownerOf}
 use Rattle.model.specs.Sheet.{agentsOf, choresOf, easyWeight, difficultWeight, marksEasy, asMarked}
 use Rattle.model.specs.Fairness.{ownersInRange}
@@ -77,6 +78,9 @@ given {s} {owners} {n} {m} fine agents chores =
     }
 
 module _ {s owners : List ℕ} {n m : ℕ} (g : Given s owners n m) where
+  pub given-few : n ≤ maxAgents
+  given-few = rw (g .agents) (g .valid .agentsFit)
+
   -- n is the sheet's number of agents
   pub given-agents : Given s owners (agentsOf s) m
   given-agents = rw (g .agents) at g
@@ -92,9 +96,6 @@ module _ {s owners : List ℕ} {n m : ℕ} (g : Given s owners n m) where
 
   pub given-owned : (c : ℕ) → c < m → Owned owners c
   given-owned c l = record { entry = omega (arith, g .size); positive = g .positive c l }
-
-  pub given-picks : Picks n m owners
-  given-picks = record { size = g .size; positive = g .positive; bounded = g .bounded }
 
   pub given-weighed : {a b : ℕ} → a ≡ easyWeight s → b ≡ difficultWeight s → Weighed s m a b
   given-weighed e d = record { valid = g .valid; chores = g .chores; easy = e; difficult = d }

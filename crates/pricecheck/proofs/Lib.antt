@@ -1,6 +1,5 @@
 pub mod Refusals
 pub mod Ratio
-pub mod Sums
 pub mod Envy
 pub mod Off
 pub mod Checked

@@ -1,21 +1,23 @@
 -- The refusals of the price check, and what 0 means. Prices are entries from 1 to a limit, as owners are.
 -- Assumes nothing.
-use Prim.Native.Nat.{ℕ, _≤_}
+use Prim.Native.Nat.{ℕ}
 use mathlib.Core.Bool.{true, false}
 use mathlib.Core.List.{List}
-use mathlib.Core.Path.{_≡_, refl, _∙_}
+use mathlib.Core.Path.{_≡_, refl, sym, _∙_}
 use native.Mathlib.Nat.{le-trans}
+use native.Mathlib.Omega.{arith}
 use lib.ListN.{length}
 use borrow.Author.Tests.{eq-eqb, ne-eqb}
-use Rattle.model.specs.Limits.{maxAgents, maxPrice}
+use Rattle.model.specs.Limits.{maxPrice}
 use Rattle.model.specs.Sheet.{agentsOf, choresOf, easyWeight, difficultWeight}
 use Rattle.model.specs.Fairness.{ownersInRange}
 use Rattle.model.specs.Refusals.{pricesInRange, pricesRefusal, priceRefusal}
 use Rattle.sheet.proofs.OrElse.{or-else-zero, or-else-assoc}
 use Rattle.sheet.proofs.Judged.{prices-picks}
 use Rattle.given.specs.Given.{givenRefusal}
-use Rattle.pricecheck.specs.Parts.{PricesGiven, Paid, Rated}
-use Rattle.given.proofs.Given.{given, given-picks, given-weighed}
+use Rattle.totals.specs.Totals.{Held}
+use Rattle.pricecheck.specs.Parts.{PricesGiven, Rated}
+use Rattle.given.proofs.Given.{given, given-few, given-weighed}
 
 module _ (m : ℕ) (prices : List ℕ) where
   range-is : pricesInRange m prices ≡ ownersInRange maxPrice m prices
@@ -43,17 +45,14 @@ prices-given s owners prices e agents chores =
     record { given = given (both .0) agents chores; priced = rw chores (prices-picks (both .1)) }
 
 module _ {s owners prices : List ℕ} {n m : ℕ} (g : PricesGiven s owners prices n m) where
-  pub given-few : n ≤ maxAgents
-  given-few = rw (g .given .agents) (g .given .valid .agentsFit)
-
-  pub given-paid : Paid owners prices m
-  given-paid =
+  pub given-held : Held owners prices
+  given-held =
       record {
-        choresFit = rw (g .given .chores) (g .given .valid .choresFit);
-        owned =
-            let fit = given-picks (g .given) in
-            record { size = fit .size; positive = fit .positive; bounded = λ c l. le-trans (fit .bounded c l) given-few };
-        priced = g .priced;
+        chores = omega (arith, g .given .size, g .given .chores, g .given .valid .choresFit);
+        pricesSized = g .priced .size ∙ sym (g .given .size);
+        numbered = λ c l. g .given .positive c (rw (g .given .size) at l);
+        known = λ c l. le-trans (g .given .bounded c (rw (g .given .size) at l)) (given-few (g .given));
+        bounded = λ c l. g .priced .bounded c (rw (g .given .size) at l);
       }
 
   pub given-rated : {a b : ℕ} → a ≡ easyWeight s → b ≡ difficultWeight s → Rated s prices m a b

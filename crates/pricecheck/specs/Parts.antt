@@ -1,15 +1,15 @@
 -- What the parts of the price check ask and answer.
-use Prim.Native.Nat.{ℕ, _+_, _-_, _≤_, _<_}
+use Prim.Native.Nat.{ℕ, _+_, _<_}
 use mathlib.Core.Bool.{Bool, true, cond}
 use mathlib.Core.List.{List}
 use mathlib.Core.Path.{_≡_}
 use lib.Dec.{ltb}
 use lib.ListN.{length, getD}
 use Rattle.finite.specs.Lists.{Picks}
-use Rattle.model.specs.Limits.{maxAgents, maxChores, maxPrice}
-use Rattle.model.specs.Instance.{ownerOf, priceOf}
+use Rattle.model.specs.Limits.{maxAgents, maxPrice}
+use Rattle.model.specs.Instance.{priceOf}
 use Rattle.model.specs.Sheet.{agentsOf, asMarked}
-use Rattle.model.specs.Prices.{best, priceSum, dearest, priceUpToOne}
+use Rattle.model.specs.Prices.{best, priceSum, priceUpToOne}
 use Rattle.model.specs.Replies.{Reply, priceEnvy, accepted}
 use Rattle.model.specs.Verdicts.{firstOfPair, secondOfPair}
 use Rattle.given.specs.Given.{Given, Weighed}
@@ -42,40 +42,15 @@ pub record PricesGiven (s owners prices : List ℕ) (n m : ℕ) : Type 0 where
   pub given : Given s owners n m
   pub priced : Picks maxPrice m prices
 
--- the same, apart from the sheet
-pub record Paid (owners prices : List ℕ) (m : ℕ) : Type 0 where
-  pub choresFit : m ≤ maxChores
-  pub owned : Picks maxAgents m owners
-  pub priced : Picks maxPrice m prices
-
--- no price has been added up yet
-pub record NoPrices (list : List ℕ) : Type 0 where
-  pub size : length list ≡ maxAgents
-  pub each : (i : ℕ) → getD list i 0 ≡ 0
-
--- the first k chores' prices have been added up for each agent, and the dearest of them found
-pub record AddedUp (k : ℕ) (owners prices sums tops : List ℕ) : Type 0 where
-  pub sumsSize : length sums ≡ maxAgents
-  pub topsSize : length tops ≡ maxAgents
-  pub sum : (i : ℕ) → i < maxAgents → getD sums i 0 ≡ priceSum k (ownerOf owners) (priceOf prices) i
-  pub top : (i : ℕ) → i < maxAgents → getD tops i 0 ≡ dearest k (ownerOf owners) (priceOf prices) i
-
--- for the first k agents, the sum less the dearest price
-pub record TakenOff (k : ℕ) (sums tops rests : List ℕ) : Type 0 where
-  pub size : length rests ≡ maxAgents
-  pub each : (i : ℕ) → i < k → getD rests i 0 ≡ getD sums i 0 - getD tops i 0
-
--- what agent i has left is above agent j's sum
-unfoldable pub above : List ℕ → List ℕ → ℕ → ℕ → Bool
-above rests sums i j = ltb (getD sums j 0) (getD rests i 0)
-
 -- agent i's price up to one is above agent j's price sum
 unfoldable pub outpays : ℕ → (ℕ → ℕ) → (ℕ → ℕ) → ℕ → ℕ → Bool
 outpays m x p i j = ltb (priceSum m x p j) (priceUpToOne m x p i)
 
--- "else `price envy i j`, the first pair ..; else `accepted`"
-unfoldable pub envyVerdict : ℕ → ℕ → (ℕ → ℕ) → (ℕ → ℕ) → Reply
-envyVerdict n m x p =
-    cond (ltb (firstOfPair n (outpays m x p)) n)
-    (priceEnvy (firstOfPair n (outpays m x p) + 1) (secondOfPair n (outpays m x p) + 1))
-    accepted
+-- the same, by lists of both
+unfoldable pub above : List ℕ → List ℕ → ℕ → ℕ → Bool
+above ups sums i j = ltb (getD sums j 0) (getD ups i 0)
+
+-- "else `price envy i j`, the first pair ..; else `accepted`", for a test of pairs
+unfoldable pub envyVerdict : ℕ → (ℕ → ℕ → Bool) → Reply
+envyVerdict n t =
+    cond (ltb (firstOfPair n t) n) (priceEnvy (firstOfPair n t + 1) (secondOfPair n t + 1)) accepted

@@ -1,11 +1,10 @@
 // The price check: each chore is to be best for its owner, and nobody's price up to one above anybody's price sum.
 
 use model::PriceVerdict;
+use totals::Totals;
 ghost use mathlib.Core.Path.{_≡_};
-ghost use Prim.Native.Nat.{ℕ, _*_, _≤_, _<_, max};
-ghost use lib.Dec.{ltb};
-ghost use lib.ListN.{length, getD};
-ghost use Rattle.finite.specs.Search.{firstBelow};
+ghost use Prim.Native.Nat.{_*_, _≤_, _<_};
+ghost use lib.ListN.{length};
 ghost use Rattle.model.specs.Limits.{maxAgents};
 ghost use Rattle.model.specs.Instance.{ownerOf, priceOf};
 ghost use Rattle.model.specs.Sheet.{agentsOf, asMarked};
@@ -14,7 +13,8 @@ ghost use Rattle.model.specs.Refusals.{pricesRefusal, priceRefusal};
 ghost use Rattle.model.specs.Verdicts.{firstOfPair, firstOffPrice};
 ghost use Rattle.model.specs.Replies.{priceReply};
 ghost use Rattle.model.specs.Promises.{PricesChecked};
-ghost use Rattle.pricecheck.specs.Parts.{Rated, Compared, Paid, PricesGiven, LeastRatio, LeastRatios, NoPrices, AddedUp, TakenOff, above, envyVerdict};
+ghost use Rattle.totals.specs.Totals.{Held};
+ghost use Rattle.pricecheck.specs.Parts.{Rated, Compared, PricesGiven, LeastRatio, LeastRatios, above, outpays, envyVerdict};
 
 // The number that a list of prices is turned down with, 0 where it is not.
 fn prices_refusal(prices: &[u32], m: usize) -> u8
@@ -137,88 +137,16 @@ fn first_off_price(sheet: &[u8], owners: &[u8], prices: &[u32], n: usize, m: usi
     m
 }
 
-// A price for each agent, none added yet.
-fn no_prices() -> [u64; model::MAX_AGENTS]
-    ensures { λ r. ⌜ NoPrices r ⌝ }
-{
-    [0; model::MAX_AGENTS]
-}
-
-fn larger(x: u64, y: u64) -> u64
-    ensures { λ r. ⌜ r ≡ max x y ⌝ }
-{
-    if x < y { y } else { x }
-}
-
-// Each chore's price goes to its owner: to the sum of the prices held, and to the dearest of them.
-fn add_up(
-    owners: &[u8],
-    prices: &[u32],
-    m: usize,
-    sums: &mut [u64; model::MAX_AGENTS],
-    dearest: &mut [u64; model::MAX_AGENTS],
-)
-    requires { ⌜ Paid (now owners) (now prices) m ⌝ }
-    requires { ⌜ NoPrices (now sums) ⌝ }
-    requires { ⌜ NoPrices (now dearest) ⌝ }
-    ensures { λ _. ⌜ AddedUp m (now (owners .entry)) (now (prices .entry)) (now (sums .exit)) (now (dearest .exit)) ⌝ }
-{
-    let mut c = 0;
-    while c < m {
-        let i = given::owner(owners, c);
-        let price = prices[c] as u64;
-        sums[i] = sums[i] + price;
-        let top = larger(dearest[i], price);
-        dearest[i] = top;
-        c += 1;
-    }
-}
-
-// What is left of each agent's sum without its dearest chore. An agent with no chore has 0 left, which is above no sum: it envies nobody.
-fn take_off_dearest(
-    sums: &[u64; model::MAX_AGENTS],
-    dearest: &[u64; model::MAX_AGENTS],
-) -> [u64; model::MAX_AGENTS]
-    requires { ⌜ ((i : ℕ) → i < maxAgents → getD (now dearest) i 0 ≤ getD (now sums) i 0) ⌝ }
-    ensures { λ r. ⌜ TakenOff maxAgents (now (sums .entry)) (now (dearest .entry)) r ⌝ }
-{
-    let mut price_up_to_one = no_prices();
-    let mut i = 0;
-    while i < model::MAX_AGENTS {
-        price_up_to_one[i] = sums[i] - dearest[i];
-        i += 1;
-    }
-    price_up_to_one
-}
-
-// The first agent whose sum is below a limit, n where there is none.
-fn first_below(n: usize, sums: &[u64; model::MAX_AGENTS], limit: u64) -> usize
+// The first agent whose price up to one is above somebody's sum, n where there is none. An agent with no chore has a price up to one of 0,
+// which is above no sum: it envies nobody.
+fn first_envious(n: usize, ups: &[u32; model::MAX_AGENTS], sums: &[u32; model::MAX_AGENTS]) -> usize
     requires { ⌜ n ≤ maxAgents ⌝ }
-    ensures { λ r. ⌜ r ≡ firstBelow n (λ j. ltb (getD (now (sums .entry)) j 0) limit) ⌝ }
-{
-    let mut j = 0;
-    while j < n {
-        if sums[j] < limit {
-            return j;
-        }
-        j += 1;
-    }
-    n
-}
-
-// The first agent whose price up to one is above somebody's sum, n where there is none.
-fn first_envious(
-    n: usize,
-    price_up_to_one: &[u64; model::MAX_AGENTS],
-    sums: &[u64; model::MAX_AGENTS],
-) -> usize
-    requires { ⌜ n ≤ maxAgents ⌝ }
-    ensures { λ r. ⌜ r ≡ firstOfPair n (above (now («price_up_to_one» .entry)) (now (sums .entry))) ⌝ }
+    ensures { λ r. ⌜ r ≡ firstOfPair n (above (now (ups .entry)) (now (sums .entry))) ⌝ }
 {
     let mut i = 0;
     while i < n {
-        let limit = price_up_to_one[i];
-        if first_below(n, sums, limit) < n {
+        let limit = ups[i];
+        if totals::first_below(n, sums, limit) < n {
             return i;
         }
         i += 1;
@@ -227,21 +155,18 @@ fn first_envious(
 }
 
 // Price envy by the first pair, or acceptance.
-fn envy_verdict(owners: &[u8], prices: &[u32], n: usize, m: usize) -> PriceVerdict
-    requires { ⌜ Paid (now owners) (now prices) m ⌝ }
+fn envy_verdict(owners: &[u8], prices: &[u32], n: usize) -> PriceVerdict
+    requires { ⌜ Held (now owners) (now prices) ⌝ }
     requires { ⌜ n ≤ maxAgents ⌝ }
-    ensures { λ r. ⌜ priceReply r ≡ envyVerdict n m (ownerOf (now (owners .entry))) (priceOf (now (prices .entry))) ⌝ }
+    ensures { λ r. ⌜ priceReply r ≡ envyVerdict n (outpays (length (now (owners .entry))) (ownerOf (now (owners .entry))) (priceOf (now (prices .entry)))) ⌝ }
 {
-    let mut sums = no_prices();
-    let mut dearest = no_prices();
-    add_up(owners, prices, m, &mut sums, &mut dearest);
-    let price_up_to_one = take_off_dearest(&sums, &dearest);
-    let i = first_envious(n, &price_up_to_one, &sums);
+    let Totals { sums, ups } = totals::sum_up(owners, prices);
+    let i = first_envious(n, &ups, &sums);
     if i == n {
         return PriceVerdict::Accepted;
     }
-    let limit = price_up_to_one[i];
-    let j = first_below(n, &sums, limit);
+    let limit = ups[i];
+    let j = totals::first_below(n, &sums, limit);
     let envious = (i + 1) as u8;
     let envied = (j + 1) as u8;
     PriceVerdict::PriceEnvy(envious, envied)
@@ -262,5 +187,5 @@ pub fn check_prices(sheet: &[u8], owners: &[u8], prices: &[u32]) -> PriceVerdict
         let chore = (c + 1) as u16;
         return PriceVerdict::OffPrice(chore);
     }
-    envy_verdict(owners, prices, n, m)
+    envy_verdict(owners, prices, n)
 }

@@ -1,3 +1,4 @@
+-- `evenness::costliest` meets its contract, by its one test.
 use native.Mathlib.Omega.{arith}
 use Rattle.model.specs.Sheet.{easyWeight, difficultWeight}
 use Rattle.given.proofs.Burdens.{found-burden, no-burden}

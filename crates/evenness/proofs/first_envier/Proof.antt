@@ -1,3 +1,4 @@
+-- `evenness::first_envier` meets its contract. The loop's invariant: no agent passed envies anybody.
 use Prim.Native.Nat.{_-_, _≤_}
 use mathlib.Core.Path.{_≡_, sym, _∙_}
 use native.Mathlib.Omega.{arith}

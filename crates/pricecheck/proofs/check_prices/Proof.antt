@@ -1,12 +1,18 @@
+-- `pricecheck::check_prices` meets its contract: each answer by its law.
 use mathlib.Core.Path.{_≡_, refl, sym, _∙_}
 use borrow.Author.Needs.{needs}
 use Rattle.model.specs.Refusals.{priceRefusal}
+use Rattle.given.proofs.Given.{given-few}
 use Rattle.pricecheck.specs.Parts.{PricesGiven}
-use Rattle.pricecheck.proofs.Refusals.{prices-given, given-few, given-paid}
+use Rattle.pricecheck.proofs.Refusals.{prices-given, given-held}
 use Rattle.pricecheck.proofs.Envy.{check-refused, check-off, check-on}
 use Rattle.pricecheck.proofs.Checked.{checked}
 use Rattle.pricecheck.proofs.check_prices.Statement.{statement}
 use Rattle.pricecheck.proofs.check_prices.Tie as tie
+
+-- back from where nothing is refused to the start
+abbrev start : tie.Else1 → tie.Start
+start c = c .before .before .before .before .before
 
 price-refusal-requires : tie.Need-price-refusal-requires
 price-refusal-requires c κs = search needs
@@ -15,10 +21,10 @@ returns : tie.Need-returns
 returns c = checked (check-refused _ _ _ (c .before .price-refusal .ensures) (c .if1 .taken))
 
 -- the lists are not turned down
-judged : (c : tie.Else1) → priceRefusal (c .before .before .before .before .before .args .sheet .now) (c .before .before .before .before .before .args .owners .now) (c .before .before .before .before .before .args .prices .now) ≡ 0
+judged : (c : tie.Else1) → priceRefusal (start c .args .sheet .now) (start c .args .owners .now) (start c .args .prices .now) ≡ 0
 judged c = sym (c .before .price-refusal .ensures) ∙ c .if1 .left
 
-given : (c : tie.After-chores) → PricesGiven (c .before .before .before .before .before .before .before .args .sheet .now) (c .before .before .before .before .before .before .before .args .owners .now) (c .before .before .before .before .before .before .before .args .prices .now) (c .before .agents .result) (c .chores .result)
+given : (c : tie.After-chores) → PricesGiven (start (c .before .before) .args .sheet .now) (start (c .before .before) .args .owners .now) (start (c .before .before) .args .prices .now) (c .before .agents .result) (c .chores .result)
 given c = prices-given _ _ _ (judged (c .before .before)) (c .before .agents .ensures .is) (c .chores .ensures .is)
 
 agents-requires : tie.Need-agents-requires
@@ -37,13 +43,21 @@ cast-chore : tie.Need-cast-chore
 cast-chore c = search needs
 
 returns-2 : tie.Need-returns-2
-returns-2 c = checked (check-off _ _ _ (c .before .before .before .before .before .price-refusal .ensures) (c .before .before .before .before .if1 .left) (c .before .before .before .agents .ensures .is) (c .before .before .chores .ensures .is) (c .before .first-off-price .ensures) (c .if2 .taken))
+returns-2 c =
+    let sought = c .before in
+    let read = sought .before in
+    let fine = read .before .before in
+    checked (check-off _ _ _ (judged fine) (given read) (sought .first-off-price .ensures) (c .if2 .taken))
 
 envy-verdict-requires : tie.Need-envy-verdict-requires
-envy-verdict-requires c κs = (given-paid (given (c .before .before)), given-few (given (c .before .before)))
+envy-verdict-requires c κs = let g = given (c .before .before) in (given-held g, given-few (g .given))
 
 returns-3 : tie.Need-returns-3
-returns-3 c = checked (check-on _ _ _ (c .before .before .before .before .before .before .price-refusal .ensures) (c .before .before .before .before .before .if1 .left) (c .before .before .before .before .agents .ensures .is) (c .before .before .before .chores .ensures .is) (c .before .before .first-off-price .ensures) (c .before .if2 .left) (c .envy-verdict .ensures))
+returns-3 c =
+    let sought = c .before .before in
+    let read = sought .before in
+    let fine = read .before .before in
+    checked (check-on _ _ _ (judged fine) (given read) (sought .first-off-price .ensures) (c .before .if2 .left) (c .envy-verdict .ensures))
 
 pub check-prices-spec : {M : Type 1} → statement M
 check-prices-spec =

@@ -1,57 +1,54 @@
+-- `pricecheck::envy_verdict` meets its contract: the first pair of the lists of sums is that of the definition.
 use Prim.Native.Nat.{_≤_, _<_}
-use native.Mathlib.Nat.{le-trans}
+use mathlib.Core.Path.{_∙_}
 use native.Mathlib.Omega.{arith}
 use borrow.Author.Needs.{needs}
 use Rattle.finite.proofs.Search.{first-le}
-use Rattle.model.specs.Limits.{maxAgents}
-use Rattle.pricecheck.proofs.Sums.{added-within}
-use Rattle.pricecheck.proofs.Envy.{pair-below, envy-none, envy-found}
+use Rattle.pricecheck.specs.Parts.{above}
+use Rattle.pricecheck.proofs.Envy.{pair-below, envy-none, envy-found, above-is}
 use Rattle.pricecheck.proofs.envy_verdict.Statement.{statement}
 use Rattle.pricecheck.proofs.envy_verdict.Tie as tie
 
-no-prices-requires : tie.Need-no-prices-requires
-no-prices-requires c κs = search needs
+-- back from where the first agent that envies is known: to the sums, to the start
+abbrev summed : tie.After-first-envious → tie.After-sum-up
+summed c = c .before .before .before .before .before
 
-no-prices-requires-2 : tie.Need-no-prices-requires-2
-no-prices-requires-2 c κs = search needs
+abbrev start : tie.After-first-envious → tie.Start
+start c = summed c .before .before .before
 
-add-up-requires : tie.Need-add-up-requires
-add-up-requires c κs = (c .before .before .before .before .before .before .pre .0, (c .before .before .before .no-prices .ensures, c .before .before .no-prices2 .ensures))
-
-take-off-dearest-requires : tie.Need-take-off-dearest-requires
-take-off-dearest-requires c κs = added-within (c .before .before .add-up .ensures)
+sum-up-requires : tie.Need-sum-up-requires
+sum-up-requires c κs = search needs
 
 first-envious-requires : tie.Need-first-envious-requires
-first-envious-requires c κs = c .before .before .before .before .before .before .before .before .before .before .before .before .pre .1
+first-envious-requires c κs = search needs
 
 returns : tie.Need-returns
-returns c = envy-none (c .before .before .before .before .before .before .before .before .before .before .before .before .before .before .pre .1) (c .before .before .before .before .before .before .before .add-up .ensures) (c .before .before .before .before .take-off-dearest .ensures) (c .before .first-envious .ensures) (c .if1 .taken)
+returns c =
+    let found = c .before in
+    envy-none _ (found .first-envious .ensures) (c .if1 .taken) ∙ above-is (start found .pre .1) (summed found .sum-up .ensures)
 
 -- who envies is among the agents, and these have their places
-envious : (c : tie.Else1) → c .before .first-envious .result < c .before .before .before .before .before .before .before .before .before .before .before .before .before .before .args .n
+envious : (c : tie.Else1) → c .before .first-envious .result < start (c .before) .args .n
 envious c = pair-below _ (c .before .first-envious .ensures) (c .if1 .left)
 
-placed : (c : tie.Else1) → c .before .first-envious .result < maxAgents
-placed c = omega (arith, envious c, c .before .before .before .before .before .before .before .before .before .before .before .before .before .before .pre .1)
-
 mul-limit : tie.Need-mul-limit
-mul-limit c = omega (arith, placed c)
+mul-limit c = omega (arith, envious c)
 
 array-read-limit : tie.Need-array-read-limit
-array-read-limit c = placed c
+array-read-limit c = omega (arith, envious c)
 
 first-below-requires : tie.Need-first-below-requires
-first-below-requires c κs = c .before .before .before .before .before .before .before .before .before .before .before .before .before .before .before .pre .1
+first-below-requires c κs = search needs
 
 -- and so is who is envied
-envied : (c : tie.After-first-below) → c .first-below .result ≤ maxAgents
-envied c = rw (c .first-below .ensures) (le-trans (first-le _ _) (c .before .before .before .before .before .before .before .before .before .before .before .before .before .before .before .before .pre .1))
+envied : (c : tie.After-first-below) → c .first-below .result ≤ start (c .before .before .before) .args .n
+envied c = rw (c .first-below .ensures) (first-le _ _)
 
 add-envious : tie.Need-add-envious
-add-envious c = omega (arith, placed (c .before .before))
+add-envious c = omega (arith, envious (c .before .before))
 
 cast-envious : tie.Need-cast-envious
-cast-envious c = omega (arith, placed (c .before .before))
+cast-envious c = omega (arith, envious (c .before .before))
 
 add-envied : tie.Need-add-envied
 add-envied c = omega (arith, envied c)
@@ -60,16 +57,17 @@ cast-envied : tie.Need-cast-envied
 cast-envied c = omega (arith, envied c)
 
 returns-2 : tie.Need-returns-2
-returns-2 c = envy-found (c .before .before .before .before .before .before .before .before .before .before .before .before .before .before .before .before .pre .1) (c .before .before .before .before .before .before .before .before .before .add-up .ensures) (c .before .before .before .before .before .before .take-off-dearest .ensures) (c .before .before .before .first-envious .ensures) (envious (c .before .before)) (c .first-below .ensures)
+unfolding above
+returns-2 c =
+    let left = c .before .before in
+    let found = left .before in
+    envy-found _ (found .first-envious .ensures) (envious left) (c .first-below .ensures) ∙ above-is (start found .pre .1) (summed found .sum-up .ensures)
 
 pub envy-verdict-spec : {M : Type 1} → statement M
 envy-verdict-spec =
     tie.close
     (tie.spec
-    no-prices-requires
-    no-prices-requires-2
-    add-up-requires
-    take-off-dearest-requires
+    sum-up-requires
     first-envious-requires
     returns
     mul-limit

@@ -1,3 +1,4 @@
+-- `pricecheck::first_off_price` meets its contract. The loop's invariant: each chore passed is best for its owner.
 use Prim.Native.Nat.{_-_, _≤_, _<_}
 use mathlib.Core.Bool.{not}
 use mathlib.Core.Path.{_≡_, sym, ap, _∙_}

@@ -1,3 +1,4 @@
+-- `pricecheck::least_ratio` meets its contract. The loop's invariant: of the chores passed, none has a lesser ratio.
 use Prim.Native.Nat.{_-_, _≤_, _<_}
 use mathlib.Core.Bool.{true}
 use mathlib.Core.Path.{_≡_}

@@ -1,3 +1,4 @@
+-- `pricecheck::least_ratios` meets its contract. The loop's invariant: each agent passed has a best chore.
 use Prim.Native.Nat.{_-_, _≤_, _<_}
 use mathlib.Core.Path.{_≡_}
 use native.Mathlib.Omega.{arith}

@@ -1,3 +1,4 @@
+-- `pricecheck::prices_refusal` meets its contract. The loop's invariant: each price passed is in range.
 use Prim.Native.Nat.{_-_, _≤_}
 use mathlib.Core.Bool.{true}
 use mathlib.Core.Logic.{⊎-elim}

@@ -1,3 +1,4 @@
+-- `pricecheck::product` meets its contract: the greatest product of two numbers of 32 bits fits.
 use Prim.Native.Nat.{_≤_}
 use native.Mathlib.Nat.{mul-le-mul}
 use native.Mathlib.Omega.{arith}

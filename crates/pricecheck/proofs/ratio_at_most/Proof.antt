@@ -1,3 +1,4 @@
+-- `pricecheck::ratio_at_most` meets its contract: two cross products.
 use borrow.Author.Needs.{needs}
 use Rattle.model.specs.Instance.{priceOf}
 use Rattle.model.specs.Prices.{ratioAtMost}
