@@ -1,9 +1,9 @@
--- What the functions of a step are given: a sheet that breaks no rule, the lists of a state, and for each chore the agents for whom it is ok.
+-- What the functions of a step are given: the lists of a state, agents by their groups, and for each chore the agents for whom it is ok.
 use Prim.Native.Nat.{ℕ, _<_}
 use mathlib.Core.Bool.{Bool}
 use mathlib.Core.List.{List}
 use mathlib.Core.Path.{_≡_}
-use lib.Dec.{eqb}
+use lib.Dec.{eqb, ltb}
 use lib.ListN.{length, getD}
 use Rattle.finite.specs.Bits.{SetOf}
 use Rattle.model.specs.Instance.{Instance}
@@ -15,6 +15,11 @@ groupOf groups i = getD groups i 0
 
 unfoldable pub entitledOf : List ℕ → ℕ → Bool
 entitledOf entitled c = eqb (getD entitled c 0) 1
+
+-- of the first k agents those in no group (free), and those in some group (grouped)
+pub record ByGroup (k : ℕ) (groups : List ℕ) (free grouped : ℕ) : Type 0 where
+  pub freeAre : SetOf k free (λ i. eqb (groupOf groups i) 0)
+  pub groupedAre : SetOf k grouped (λ i. ltb 0 (groupOf groups i))
 
 -- for each chore the set of agents who find it easy, or of all where nobody does
 pub record Liked (I : Instance) (likes : List ℕ) : Type 0 where

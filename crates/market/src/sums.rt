@@ -7,7 +7,7 @@ ghost use Rattle.finite.specs.Bits.{SetOf};
 ghost use Rattle.finite.specs.Sums.{minTo};
 ghost use Rattle.finite.specs.Search.{anyBelow};
 ghost use Rattle.model.specs.Limits.{maxAgents};
-ghost use Rattle.market.specs.Market.{groupOf};
+ghost use Rattle.market.specs.Market.{ByGroup};
 use crate::words::with;
 
 pub fn least_of(n: usize, sums: &[u32]) -> u32
@@ -55,34 +55,26 @@ pub fn any_above(n: usize, ups: &[u32], least: u32) -> bool
     false
 }
 
-// The agents in no group.
-pub fn others(groups: &[u8]) -> u32
+// The agents in no group, and those in some group.
+pub struct Sides {
+    pub free: u32,
+    pub grouped: u32,
+}
+
+pub fn by_group(groups: &[u8]) -> Sides
     requires { ⌜ length (now groups) ≤ maxAgents ⌝ }
-    ensures { λ r. ⌜ SetOf (length (now (groups .entry))) r (λ i. eqb (groupOf (now (groups .entry)) i) 0) ⌝ }
+    ensures { λ r. ⌜ ByGroup (length (now (groups .entry))) (now (groups .entry)) (r .free) (r .grouped) ⌝ }
 {
-    let mut w = 0u32;
+    let mut free = 0u32;
+    let mut grouped = 0u32;
     let mut i = 0;
     while i < groups.len() {
         if groups[i] == 0 {
-            w = with(w, i);
+            free = with(free, i);
+        } else {
+            grouped = with(grouped, i);
         }
         i += 1;
     }
-    w
-}
-
-// The agents in some group.
-pub fn members(groups: &[u8]) -> u32
-    requires { ⌜ length (now groups) ≤ maxAgents ⌝ }
-    ensures { λ r. ⌜ SetOf (length (now (groups .entry))) r (λ i. ltb 0 (groupOf (now (groups .entry)) i)) ⌝ }
-{
-    let mut w = 0u32;
-    let mut i = 0;
-    while i < groups.len() {
-        if groups[i] > 0 {
-            w = with(w, i);
-        }
-        i += 1;
-    }
-    w
+    Sides { free, grouped }
 }

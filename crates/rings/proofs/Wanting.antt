@@ -54,7 +54,7 @@ module _ {I : Instance} {p : ℕ → ℕ} {groups entitled likes : List ℕ} {fr
       (λ j l. ap (λ b. cond (entitledOf entitled c) (ok I j c && b) ((ok I j c && eqb (groupOf groups j) 0) || b)) (positive (groupOf groups j))
       ∙ parted (eqb (groupOf groups j) 0) (entitledOf entitled c) (ok I j c)
       ∙ sym (a .wants j c l h))
-      (set-wanting (entitledOf entitled c) (a .liking .liked c h) (a .freeAre) (a .groupedAre))
+      (set-wanting (entitledOf entitled c) (a .liking .liked c h) (a .sides .freeAre) (a .sides .groupedAre))
 
   pub wants-best : (j c : ℕ) → j < I .n → c < I .m → wantsChore entitled likes free grouped j c ≡ best I p j c
   unfolding wantsChore
@@ -65,6 +65,6 @@ module _ {I : Instance} {p : ℕ → ℕ} {groups entitled likes : List ℕ} {fr
   unfolding wantsFrom supplies
   offer-set {owners} o i l few =
       record {
-        below = o .below (I .n) i (omega arith) (a .freeAre .below) (a .groupedAre .below);
+        below = o .below (I .n) i (omega arith) (a .sides .freeAre .below) (a .sides .groupedAre .below);
         member = λ j h. o .members i j (omega arith) ∙ any-cong (I .m) (λ c k. ap (λ b. owns (ownerOf owners) i c && b) (wants-best j c h k));
       }

@@ -3,16 +3,15 @@ use Prim.Native.Nat.{ℕ, _^_, _≤_, _<_}
 use mathlib.Core.Bool.{Bool, _&&_}
 use mathlib.Core.List.{List}
 use mathlib.Core.Path.{_≡_}
-use lib.Dec.{eqb, ltb}
 use lib.ListN.{length, getD}
-use Rattle.finite.specs.Bits.{bit, SetOf}
+use Rattle.finite.specs.Bits.{bit}
 use Rattle.finite.specs.Search.{anyBelow}
 use Rattle.model.specs.Limits.{maxAgents}
 use Rattle.model.specs.Instance.{Instance, ownerOf}
 use Rattle.model.specs.Fairness.{owns}
 use Rattle.model.specs.Prices.{best}
 use Rattle.algorithm.specs.Kinds.{wanted}
-use Rattle.market.specs.Market.{groupOf, entitledOf, Liked}
+use Rattle.market.specs.Market.{groupOf, entitledOf, ByGroup, Liked}
 use Rattle.rings.specs.Words.{wantingWord}
 
 -- safety: the lists of the chores, without prices
@@ -40,5 +39,4 @@ pub record Offered (owners entitled likes : List ℕ) (free grouped m : ℕ) (of
 pub record Asking (I : Instance) (p : ℕ → ℕ) (groups entitled likes : List ℕ) (free grouped : ℕ) : Type 0 where
   pub liking : Liked I likes
   pub wants : (j c : ℕ) → j < I .n → c < I .m → best I p j c ≡ wanted I (groupOf groups) (entitledOf entitled) j c
-  pub freeAre : SetOf (I .n) free (λ i. eqb (groupOf groups i) 0)
-  pub groupedAre : SetOf (I .n) grouped (λ i. ltb 0 (groupOf groups i))
+  pub sides : ByGroup (I .n) groups free grouped

@@ -8,10 +8,11 @@ use native.Mathlib.Nat.{le-trans, mul-le-mul}
 use native.Mathlib.Omega.{arith}
 use lib.Dec.{eqb, ltb}
 use lib.ListN.{length, getD}
+use borrow.Author.Tests.{lt-ltb}
 use Rattle.finite.specs.Sums.{minTo}
 use Rattle.finite.specs.Search.{anyBelow}
 use Rattle.finite.specs.Bits.{SetOf}
-use Rattle.finite.proofs.Search.{any-cong}
+use Rattle.finite.proofs.Search.{any-intro, any-cong}
 use Rattle.finite.proofs.Extremes.{low-cong}
 use Rattle.finite.proofs.Bits.{set-cong}
 use Rattle.model.specs.Limits.{maxAgents, maxPrice, maxWeight}
@@ -26,10 +27,11 @@ use Rattle.algorithm.specs.Core.{Core}
 use Rattle.algorithm.specs.Reached.{Reached}
 use Rattle.algorithm.proofs.Best.{best-wanted, price-bound}
 use Rattle.algorithm.proofs.Reading.{read-sound}
+use Rattle.algorithm.proofs.Rings.{above-is, due-found}
 use Rattle.totals.specs.Totals.{Held, Summed}
-use Rattle.market.specs.Market.{groupOf, entitledOf, Liked}
+use Rattle.market.specs.Market.{groupOf, entitledOf, ByGroup, Liked}
 use Rattle.rings.specs.Offers.{Owned, Offered, Asking}
-use Rattle.rings.specs.Search.{Searching}
+use Rattle.rings.specs.Search.{Searching, Searched}
 use Rattle.rings.proofs.Wanting.{offer-set}
 use Rattle.steps.specs.Turns.{stateOf, Ready}
 
@@ -94,15 +96,9 @@ module _ {s owners prices groups entitled likes : List ℕ} (R : Ready s owners 
   wants j c hj hc = best-wanted sound (R .core) j c hj hc
 
   -- who wants what
-  pub asking : {free grouped : ℕ} → SetOf (length groups) free (λ i. eqb (groupOf groups i) 0) → SetOf (length groups) grouped (λ i. ltb 0 (groupOf groups i)) → Asking (asRead s) (priceOf prices) groups entitled likes free grouped
+  pub asking : {free grouped : ℕ} → ByGroup (length groups) groups free grouped → Asking (asRead s) (priceOf prices) groups entitled likes free grouped
   unfolding asRead
-  asking f g =
-      record {
-        liking = R .liking;
-        wants = wants;
-        freeAre = rw (R .groupsSized) at f;
-        groupedAre = rw (R .groupsSized) at g;
-      }
+  asking g = record { liking = R .liking; wants = wants; sides = rw (R .groupsSized) at g }
 
   module _ {sums ups : List ℕ} (T : Summed owners prices sums ups) where
     pub sum-is : (i : ℕ) → i < agentsOf s → getD sums i 0 ≡ priceSum (choresOf s) (ownerOf owners) (priceOf prices) i
@@ -128,6 +124,14 @@ module _ {s owners prices groups entitled likes : List ℕ} (R : Ready s owners 
             leastIs = least-is e;
             startIs = set-cong (λ i h. ap₂ eqb (sum-is i h) (least-is e)) (rw agents at b);
           }
+
+      -- whether anybody is above the least sum: a giver is, and without one the code looks for somebody
+      pub any-giver : {giver takers reached : ℕ} → Searched (asRead s) (ownerOf owners) (priceOf prices) giver takers reached → giver < n → ltb giver n ≡ anyBelow (agentsOf s) (above (asRead s) (ownerOf owners) (priceOf prices))
+      unfolding asRead
+      any-giver {giver} F some =
+          let due = due-found (asRead s) (ownerOf owners) (priceOf prices) (R .valid .someAgent) (F .due (rw agents at some)) in
+          lt-ltb giver n some
+          ∙ sym (any-intro (above (asRead s) (ownerOf owners) (priceOf prices)) _ (due .giver) (above-is (asRead s) (ownerOf owners) (priceOf prices) _ (due .giverAbove)))
 
       pub any-is : {least : ℕ} {any : Bool} → least ≡ minTo n (λ i. getD sums i 0) → any ≡ anyBelow n (λ i. ltb least (getD ups i 0)) → any ≡ anyBelow (agentsOf s) (above (asRead s) (ownerOf owners) (priceOf prices))
       unfolding asRead above

@@ -8,10 +8,9 @@ use market::choices::least_after;
 use market::cuts::cut_groups;
 use market::cuts::cut_prices;
 use market::sums::any_above;
+use market::sums::by_group;
 use market::sums::least_of;
-use market::sums::members;
 use market::sums::of_sum;
-use market::sums::others;
 use market::words::lowest;
 use rings::offers::add_offers;
 use rings::offers::first_wanted;
@@ -56,12 +55,13 @@ fn look(
     let totals = sum_up(owners, prices);
     let least = least_of(n, &totals.sums);
     let start = of_sum(n, &totals.sums, least);
-    let free = others(groups);
-    let grouped = members(groups);
-    let any = any_above(n, &totals.ups, least);
+    let sides = by_group(groups);
+    let free = sides.free;
+    let grouped = sides.grouped;
     let mut offers = zeros();
     add_offers(owners, entitled, likes, free, grouped, &mut offers);
     let found = search(n, &offers, &totals.ups, least, start);
+    let any = found.giver < n || any_above(n, &totals.ups, least);
     Seen {
         giver: found.giver,
         takers: found.takers,

@@ -2,20 +2,22 @@
 use mathlib.Core.Path.{sym}
 use native.Mathlib.Omega.{arith}
 use borrow.Author.Needs.{needs}
+use Rattle.model.specs.Instance.{ownerOf, priceOf}
 use Rattle.model.specs.Sheet.{asRead}
-use Rattle.steps.proofs.Ready.{held, owned, asking, searching, any-is}
+use Rattle.rings.specs.Search.{Searched}
+use Rattle.steps.proofs.Ready.{held, owned, asking, searching, any-giver, any-is}
 use Rattle.steps.proofs.look.Statement.{statement}
 use Rattle.steps.proofs.look.Tie as tie
 
--- back from the search to the offers, to the sets of agents, to the sums, and to the start
+-- back from the search to the offers, to the sides, to the sums, and to the start
 abbrev offered : tie.After-search-arg2 → tie.After-add-offers
 offered c = c .before .before .before .before .before
 
-abbrev sorted : tie.After-add-offers → tie.After-members
-sorted c = c .before .before .before .before .before .before .before
+abbrev sorted : tie.After-add-offers → tie.After-by-group
+sorted c = c .before .before .before
 
-abbrev summed : tie.After-members → tie.After-sum-up
-summed c = c .before .before .before .before .before .before .before .before .before .before
+abbrev summed : tie.After-by-group → tie.After-sum-up
+summed c = c .before .before .before .before .before .before .before .before .before
 
 abbrev start : tie.After-agents → tie.Start
 start c = c .before .before .before .before .before .before .before
@@ -32,14 +34,8 @@ least-of-requires c κs = search needs
 of-sum-requires : tie.Need-of-sum-requires
 of-sum-requires c κs = search needs
 
-others-requires : tie.Need-others-requires
-others-requires c κs = search needs
-
-members-requires : tie.Need-members-requires
-members-requires c κs = search needs
-
-any-above-requires : tie.Need-any-above-requires
-any-above-requires c κs = search needs
+by-group-requires : tie.Need-by-group-requires
+by-group-requires c κs = search needs
 
 zeros-requires : tie.Need-zeros-requires
 zeros-requires c κs = search needs
@@ -49,8 +45,8 @@ slice-aggregate-add-offers c = search needs
 
 add-offers-requires : tie.Need-add-offers-requires
 add-offers-requires c κs =
-    let sets = c .before .before .before .before .before .before in
-    (owned (start (summed sets .before) .pre), c .before .zeros .ensures)
+    let sides = c .before .before in
+    (owned (start (summed sides .before) .pre), c .before .zeros .ensures)
 
 slice-aggregate-search : tie.Need-slice-aggregate-search
 slice-aggregate-search c = search needs
@@ -63,21 +59,49 @@ search-requires c κs =
     let few = start (sums .before) .pre .valid .agentsFit in
     (omega (arith, n-is, few), omega (arith, n-is, few, offers .add-offers .ensures .size), omega (arith, n-is, few, sums .sum-up .ensures .up .size))
 
-returns : tie.Need-returns
+found :
+    (c : tie.After-search)
+    → let args = start (summed (sorted (offered (c .before))) .before) .args in
+    let result = c .search .result in
+    Searched (asRead (args .sheet .now)) (ownerOf (args .owners .now)) (priceOf (args .prices .now)) (result .giver) (result .takers) (result .reached)
 unfolding asRead
-returns c =
+found c =
     let offers = offered (c .before) in
-    let sets = sorted offers in
-    let sums = summed sets in
+    let sides = sorted offers in
+    let sums = summed sides in
     let ready = start (sums .before) .pre in
     let n-is = sums .before .agents .ensures .is in
-    let least = sets .before .before .before .before .before .before .least-of .ensures in
-    let asked = asking ready (sets .before .others .ensures) (sets .members .ensures) in
-    let search = searching ready (sums .sum-up .ensures) n-is asked (offers .add-offers .ensures) least (sets .before .before .of-sum .ensures) in
+    let least = sides .before .before .before .before .before .least-of .ensures in
+    c .search .ensures .searched _ _ _ (sym n-is)
+    (searching ready (sums .sum-up .ensures) n-is (asking ready (sides .by-group .ensures)) (offers .add-offers .ensures) least (sides .before .of-sum .ensures))
+
+any-above-requires : tie.Need-any-above-requires
+any-above-requires c κs =
+    let sums = summed (sorted (offered (c .before .before .before .before .before .before))) in
+    omega (arith, sums .before .agents .ensures .is, start (sums .before) .pre .valid .agentsFit, sums .sum-up .ensures .up .size)
+
+returns : tie.Need-returns
+returns c =
+    let sides = sorted (offered (c .before .before .before)) in
+    let sums = summed sides in
+    let ready = start (sums .before) .pre in
     record {
-      searched = c .search .ensures .searched _ _ _ (sym n-is) search;
-      asking = asked;
-      anyIs = any-is ready (sums .sum-up .ensures) n-is least (offers .before .before .before .any-above .ensures);
+      searched = found (c .before .before);
+      asking = asking ready (sides .by-group .ensures);
+      anyIs = any-giver ready (sums .sum-up .ensures) (sums .before .agents .ensures .is) (found (c .before .before)) (c .if1 .taken);
+    }
+
+returns-2 : tie.Need-returns-2
+returns-2 c =
+    let searched = c .before .before .before .before .before .before in
+    let sides = sorted (offered (searched .before)) in
+    let sums = summed sides in
+    let ready = start (sums .before) .pre in
+    let least = sides .before .before .before .before .before .least-of .ensures in
+    record {
+      searched = found searched;
+      asking = asking ready (sides .by-group .ensures);
+      anyIs = any-is ready (sums .sum-up .ensures) (sums .before .agents .ensures .is) least (c .any-above .ensures);
     }
 
 pub look-spec : {M : Type 1} → statement M
@@ -88,12 +112,12 @@ look-spec =
     sum-up-requires
     least-of-requires
     of-sum-requires
-    others-requires
-    members-requires
-    any-above-requires
+    by-group-requires
     zeros-requires
     slice-aggregate-add-offers
     add-offers-requires
     slice-aggregate-search
     search-requires
-    returns)
+    any-above-requires
+    returns
+    returns-2)
