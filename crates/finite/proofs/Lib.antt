@@ -7,6 +7,7 @@ pub mod Counts
 pub mod Fibres
 pub mod Moves
 pub mod Lists
+pub mod Rewriting
 pub mod Extremes
 pub mod Sweeps
 pub mod Chosen

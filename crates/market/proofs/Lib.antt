@@ -1,2 +1,1 @@
-pub mod Rewriting
 pub mod Opens

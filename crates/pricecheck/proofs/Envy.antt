@@ -58,9 +58,9 @@ module _ (n : ℕ) {t u : ℕ → ℕ → Bool} (same : (i j : ℕ) → i < n �
       (λ _. refl)
 
 -- the lists stand for the definitions
-pub above-is : {owners prices sums ups : List ℕ} {n : ℕ} → n ≤ maxAgents → Summed owners prices sums ups → envyVerdict n (above ups sums) ≡ envyVerdict n (outpays (length owners) (ownerOf owners) (priceOf prices))
+pub above-is : {owners prices sums ups : List ℕ} {n : ℕ} → n ≤ maxAgents → Summed n owners prices sums ups → envyVerdict n (above ups sums) ≡ envyVerdict n (outpays (length owners) (ownerOf owners) (priceOf prices))
 unfolding above outpays
-above-is {n = n} few t = verdict-cong n (λ i j l k. rw (t .up .entry i (omega arith), t .sum .entry j (omega arith)))
+above-is {n = n} few t = verdict-cong n (λ i j l k. rw (t .up i l, t .sum .entry j (omega arith)))
 
 module _ (I : Instance) (x p : ℕ → ℕ) where
   -- an agent with nothing has a price up to one of 0, which is above no sum

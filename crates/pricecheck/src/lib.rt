@@ -1,7 +1,6 @@
 // The price check: each chore is to be best for its owner, and nobody's price up to one above anybody's price sum.
 
 use model::PriceVerdict;
-use totals::Totals;
 ghost use mathlib.Core.Path.{_≡_};
 ghost use Prim.Native.Nat.{_*_, _≤_, _<_};
 ghost use lib.ListN.{length};
@@ -160,7 +159,9 @@ fn envy_verdict(owners: &[u8], prices: &[u32], n: usize) -> PriceVerdict
     requires { ⌜ n ≤ maxAgents ⌝ }
     ensures { λ r. ⌜ priceReply r ≡ envyVerdict n (outpays (length (now (owners .entry))) (ownerOf (now (owners .entry))) (priceOf (now (prices .entry)))) ⌝ }
 {
-    let Totals { sums, ups } = totals::sum_up(owners, prices);
+    let mut sums = totals::zeros();
+    let mut ups = totals::zeros();
+    totals::sum_up(n, owners, prices, &mut sums, &mut ups);
     let i = first_envious(n, &ups, &sums);
     if i == n {
         return PriceVerdict::Accepted;

@@ -7,7 +7,7 @@ use mathlib.Core.Path.{_≡_, sym, ap, ap₂, _∙_}
 use native.Mathlib.Nat.{le-trans, mul-le-mul}
 use native.Mathlib.Omega.{arith}
 use lib.Dec.{eqb, ltb}
-use lib.ListN.{length, getD}
+use lib.ListN.{length, getD, replicate}
 use borrow.Author.Tests.{lt-ltb}
 use Rattle.finite.specs.Sums.{minTo}
 use Rattle.finite.specs.Search.{anyBelow}
@@ -28,7 +28,7 @@ use Rattle.algorithm.specs.Reached.{Reached}
 use Rattle.algorithm.proofs.Best.{best-wanted, price-bound}
 use Rattle.algorithm.proofs.Reading.{read-sound}
 use Rattle.algorithm.proofs.Rings.{above-is, due-found}
-use Rattle.totals.specs.Totals.{Held, Summed}
+use Rattle.totals.specs.Totals.{Held, Summing, Summed}
 use Rattle.market.specs.Market.{groupOf, entitledOf, ByGroup, Liked}
 use Rattle.rings.specs.Offers.{Owned, Offered, Asking}
 use Rattle.rings.specs.Search.{Searching, Searched}
@@ -95,44 +95,46 @@ module _ {s owners prices groups entitled likes : List ℕ} (R : Ready s owners 
   unfolding asRead
   wants j c hj hc = best-wanted sound (R .core) j c hj hc
 
+  -- what the sums are given
+  pub summing : {n : ℕ} {sums ups : List ℕ} → n ≡ agentsOf s → sums ≡ replicate maxAgents 0 → ups ≡ replicate maxAgents 0 → Summing n owners prices sums ups
+  summing e a b = record { agents = rw e (R .valid .agentsFit); held = held; noSums = a; noUps = b }
+
   -- who wants what
   pub asking : {free grouped : ℕ} → ByGroup (length groups) groups free grouped → Asking (asRead s) (priceOf prices) groups entitled likes free grouped
   unfolding asRead
   asking g = record { liking = R .liking; wants = wants; sides = rw (R .groupsSized) at g }
 
-  module _ {sums ups : List ℕ} (T : Summed owners prices sums ups) where
+  module _ {n : ℕ} {sums ups : List ℕ} (agents : n ≡ agentsOf s) (T : Summed n owners prices sums ups) where
     pub sum-is : (i : ℕ) → i < agentsOf s → getD sums i 0 ≡ priceSum (choresOf s) (ownerOf owners) (priceOf prices) i
     sum-is i h = T .sum .entry i (omega (arith, R .valid .agentsFit)) ∙ ap (λ m. priceSum m (ownerOf owners) (priceOf prices) i) (R .ownersSized)
 
     pub up-is : (i : ℕ) → i < agentsOf s → getD ups i 0 ≡ priceUpToOne (choresOf s) (ownerOf owners) (priceOf prices) i
-    up-is i h = T .up .entry i (omega (arith, R .valid .agentsFit)) ∙ ap (λ m. priceUpToOne m (ownerOf owners) (priceOf prices) i) (R .ownersSized)
+    up-is i h = T .up i (rw agents h) ∙ ap (λ m. priceUpToOne m (ownerOf owners) (priceOf prices) i) (R .ownersSized)
 
-    -- as the code has them, of n agents
-    module _ {n : ℕ} (agents : n ≡ agentsOf s) where
-      least-is : {least : ℕ} → least ≡ minTo n (λ i. getD sums i 0) → least ≡ leastSum (asRead s) (ownerOf owners) (priceOf prices)
-      unfolding asRead leastSum
-      least-is e = e ∙ rw agents (low-cong (agentsOf s) sum-is)
+    least-is : {least : ℕ} → least ≡ minTo n (λ i. getD sums i 0) → least ≡ leastSum (asRead s) (ownerOf owners) (priceOf prices)
+    unfolding asRead leastSum
+    least-is e = e ∙ rw agents (low-cong (agentsOf s) sum-is)
 
-      -- what the search of 2b starts from
-      pub searching : {offers : List ℕ} {least start free grouped : ℕ} → Asking (asRead s) (priceOf prices) groups entitled likes free grouped → Offered owners entitled likes free grouped (length owners) offers → least ≡ minTo n (λ i. getD sums i 0) → SetOf n start (λ i. eqb (getD sums i 0) least) → Searching (asRead s) (ownerOf owners) (priceOf prices) offers ups least start
-      unfolding asRead ofLeastSum
-      searching {least = least} a o e b =
-          record {
-            some = R .valid .someAgent;
-            offered = λ i h. offer-set a (rw (R .ownersSized) at o) i h (R .valid .agentsFit);
-            up = up-is;
-            leastIs = least-is e;
-            startIs = set-cong (λ i h. ap₂ eqb (sum-is i h) (least-is e)) (rw agents at b);
-          }
+    -- what the search of 2b starts from
+    pub searching : {offers : List ℕ} {least start free grouped : ℕ} → Asking (asRead s) (priceOf prices) groups entitled likes free grouped → Offered owners entitled likes free grouped (length owners) offers → least ≡ minTo n (λ i. getD sums i 0) → SetOf n start (λ i. eqb (getD sums i 0) least) → Searching (asRead s) (ownerOf owners) (priceOf prices) offers ups least start
+    unfolding asRead ofLeastSum
+    searching {least = least} a o e b =
+        record {
+          some = R .valid .someAgent;
+          offered = λ i h. offer-set a (rw (R .ownersSized) at o) i h (R .valid .agentsFit);
+          up = up-is;
+          leastIs = least-is e;
+          startIs = set-cong (λ i h. ap₂ eqb (sum-is i h) (least-is e)) (rw agents at b);
+        }
 
-      -- whether anybody is above the least sum: a giver is, and without one the code looks for somebody
-      pub any-giver : {giver takers reached : ℕ} → Searched (asRead s) (ownerOf owners) (priceOf prices) giver takers reached → giver < n → ltb giver n ≡ anyBelow (agentsOf s) (above (asRead s) (ownerOf owners) (priceOf prices))
-      unfolding asRead
-      any-giver {giver} F some =
-          let due = due-found (asRead s) (ownerOf owners) (priceOf prices) (R .valid .someAgent) (F .due (rw agents at some)) in
-          lt-ltb giver n some
-          ∙ sym (any-intro (above (asRead s) (ownerOf owners) (priceOf prices)) _ (due .giver) (above-is (asRead s) (ownerOf owners) (priceOf prices) _ (due .giverAbove)))
+    -- whether anybody is above the least sum: a giver is, and without one the code looks for somebody
+    pub any-giver : {giver takers reached : ℕ} → Searched (asRead s) (ownerOf owners) (priceOf prices) giver takers reached → giver < n → ltb giver n ≡ anyBelow (agentsOf s) (above (asRead s) (ownerOf owners) (priceOf prices))
+    unfolding asRead
+    any-giver {giver} F some =
+        let due = due-found (asRead s) (ownerOf owners) (priceOf prices) (R .valid .someAgent) (F .due (rw agents at some)) in
+        lt-ltb giver n some
+        ∙ sym (any-intro (above (asRead s) (ownerOf owners) (priceOf prices)) _ (due .giver) (above-is (asRead s) (ownerOf owners) (priceOf prices) _ (due .giverAbove)))
 
-      pub any-is : {least : ℕ} {any : Bool} → least ≡ minTo n (λ i. getD sums i 0) → any ≡ anyBelow n (λ i. ltb least (getD ups i 0)) → any ≡ anyBelow (agentsOf s) (above (asRead s) (ownerOf owners) (priceOf prices))
-      unfolding asRead above
-      any-is e q = q ∙ rw agents (any-cong (agentsOf s) (λ i h. ap₂ ltb (least-is e) (up-is i h)))
+    pub any-is : {least : ℕ} {any : Bool} → least ≡ minTo n (λ i. getD sums i 0) → any ≡ anyBelow n (λ i. ltb least (getD ups i 0)) → any ≡ anyBelow (agentsOf s) (above (asRead s) (ownerOf owners) (priceOf prices))
+    unfolding asRead above
+    any-is e q = q ∙ rw agents (any-cong (agentsOf s) (λ i h. ap₂ ltb (least-is e) (up-is i h)))

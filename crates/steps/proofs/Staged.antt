@@ -35,16 +35,16 @@ pub record Chose (s owners prices groups entitled likes : List ℕ) (cuts stage 
   pub turning : Turning s owners prices groups entitled likes cuts stage
   pub some : 0 < stage
   pub agents : n ≡ agentsOf s
-  pub summed : Summed owners prices sums ups
+  pub summed : Summed n owners prices sums ups
   pub giver : i ≡ chosen (length groups) (λ k. eqb (groupOf groups k) stage) (λ k l. ltb (getD ups l 0) (getD ups k 0))
   pub receiver : j ≡ chosen (length groups) (λ k. ltb stage (groupOf groups k)) (λ k l. ltb (getD sums k 0) (getD sums l 0))
 
 module _ {s owners prices groups entitled likes : List ℕ} {cuts stage n : ℕ} {sums ups : List ℕ} {i j : ℕ} (C : Chose s owners prices groups entitled likes cuts stage n sums ups i j) where
   sum-at : (k : ℕ) → k < agentsOf s → getD sums k 0 ≡ priceSum (choresOf s) (ownerOf owners) (priceOf prices) k
-  sum-at = sum-is (C .turning .ready) (C .summed)
+  sum-at = sum-is (C .turning .ready) (C .agents) (C .summed)
 
   up-at : (k : ℕ) → k < agentsOf s → getD ups k 0 ≡ priceUpToOne (choresOf s) (ownerOf owners) (priceOf prices) k
-  up-at = up-is (C .turning .ready) (C .summed)
+  up-at = up-is (C .turning .ready) (C .agents) (C .summed)
 
   giver-is : i ≡ giver2a (asRead s) (ownerOf owners) (priceOf prices) (groupOf groups) (entitledOf entitled) stage
   unfolding asRead giver2a

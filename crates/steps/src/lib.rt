@@ -52,16 +52,18 @@ fn look(
     ensures { λ r. ⌜ Look (now (sheet .entry)) (now (owners .entry)) (now (prices .entry)) (now (groups .entry)) (now (entitled .entry)) (now (likes .entry)) (r .giver) (r .takers) (r .reached) (r .free) (r .grouped) (r .any) ⌝ }
 {
     let n = sheet::agents(sheet);
-    let totals = sum_up(owners, prices);
-    let least = least_of(n, &totals.sums);
-    let start = of_sum(n, &totals.sums, least);
+    let mut sums = zeros();
+    let mut ups = zeros();
+    sum_up(n, owners, prices, &mut sums, &mut ups);
+    let least = least_of(n, &sums);
+    let start = of_sum(n, &sums, least);
     let sides = by_group(groups);
     let free = sides.free;
     let grouped = sides.grouped;
     let mut offers = zeros();
     add_offers(owners, entitled, likes, free, grouped, &mut offers);
-    let found = search(n, &offers, &totals.ups, least, start);
-    let any = found.giver < n || any_above(n, &totals.ups, least);
+    let found = search(n, &offers, &ups, least, start);
+    let any = found.giver < n || any_above(n, &ups, least);
     Seen {
         giver: found.giver,
         takers: found.takers,
@@ -152,9 +154,9 @@ pub fn step_2a(
         r (now (owners .exit)) (now (prices .entry)) (now (groups .entry)) (now (entitled .entry)) ⌝ }
 {
     let n = sheet::agents(sheet);
-    let totals = sum_up(owners, prices);
-    let sums = totals.sums;
-    let ups = totals.ups;
+    let mut sums = zeros();
+    let mut ups = zeros();
+    sum_up(n, owners, prices, &mut sums, &mut ups);
     let giver = greatest_in(groups, &ups, stage);
     let receiver = least_after(groups, &sums, stage);
     if giver < n {

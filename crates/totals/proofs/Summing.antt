@@ -2,18 +2,16 @@
 -- Assumes nothing.
 use Prim.Native.Nat.{ℕ, _+_, _-_, _^_, _≤_, _<_}
 use mathlib.Core.List.{List}
-use mathlib.Core.Path.{_≡_, refl, ap, ap₂, _∙_}
+use mathlib.Core.Path.{_≡_, refl, ap₂, _∙_}
 use native.Mathlib.Omega.{arith}
 use lib.ListN.{length, getD, set, replicate}
-use Rattle.finite.specs.Lists.{tabulate}
 use Rattle.finite.proofs.Where.{peak-within}
-use Rattle.finite.proofs.Lists.{tab-length, tab-at}
 use Rattle.finite.proofs.Sweeps.{sums-none, sums-next, sums-bound, tops-none, tops-raised, tops-kept}
 use Rattle.model.specs.Limits.{maxAgents, maxPrice}
 use Rattle.model.specs.Instance.{ownerOf, priceOf}
 use Rattle.model.specs.Fairness.{owns, total}
 use Rattle.model.specs.Prices.{dearest, priceUpToOne}
-use Rattle.totals.specs.Totals.{Held, Added, Summed}
+use Rattle.totals.specs.Totals.{Held, Added, Parts, TakenOff, Summed}
 
 module _ {owners prices sums tops : List ℕ} where
   -- no chore has been added yet
@@ -22,22 +20,24 @@ module _ {owners prices sums tops : List ℕ} where
   added-none s t = record { sum = sums-none (ownerOf owners) (priceOf prices) s; top = tops-none (ownerOf owners) (priceOf prices) t }
 
   -- the dearest is part of the sum
-  pub added-part : {k : ℕ} → Added k owners prices sums tops → (i : ℕ) → i < maxAgents → getD tops i 0 ≤ getD sums i 0
+  pub added-parts : {k n : ℕ} → Added k owners prices sums tops → n ≤ maxAgents → Parts n sums tops
   unfolding total dearest
-  added-part {k} a i l = rw (a .sum .entry i l, a .top .entry i l) (peak-within k (owns (ownerOf owners) i) (priceOf prices))
+  added-parts {k} a few =
+      record {
+        agents = few;
+        size = a .top .size;
+        part = λ i l.
+            let e : i < maxAgents = omega arith in
+            rw (a .sum .entry i e, a .top .entry i e) (peak-within k (owns (ownerOf owners) i) (priceOf prices));
+      }
 
-  pub summed : {ups : List ℕ} → Added (length owners) owners prices sums tops → ups ≡ tabulate maxAgents (λ i. getD sums i 0 - getD tops i 0) → Summed owners prices sums ups
+  pub summed : {n : ℕ} {ups : List ℕ} → Added (length owners) owners prices sums tops → n ≤ maxAgents → TakenOff n sums tops ups → Summed n owners prices sums ups
   unfolding priceUpToOne
-  summed a e =
+  summed a few t =
       record {
         sum = a .sum;
-        up =
-            record {
-              size = ap length e ∙ tab-length maxAgents (λ i. getD sums i 0 - getD tops i 0);
-              entry = λ i l.
-                  ap (λ xs. getD xs i 0) e ∙ tab-at (λ i. getD sums i 0 - getD tops i 0) i 0 l
-                  ∙ ap₂ (λ s t. s - t) (a .sum .entry i l) (a .top .entry i l);
-            };
+        size = t .size ∙ a .top .size;
+        up = λ i l. let e : i < maxAgents = omega arith in t .rest i l ∙ ap₂ (λ s d. s - d) (a .sum .entry i e) (a .top .entry i e);
       }
 
 -- chore c, and its owner as the code counts

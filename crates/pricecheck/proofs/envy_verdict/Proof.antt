@@ -11,13 +11,22 @@ use Rattle.pricecheck.proofs.envy_verdict.Tie as tie
 
 -- back from where the first agent that envies is known: to the sums, to the start
 abbrev summed : tie.After-first-envious → tie.After-sum-up
-summed c = c .before .before .before .before .before
+summed c = c .before .before .before
 
 abbrev start : tie.After-first-envious → tie.Start
-start c = summed c .before .before .before
+start c = summed c .before .before .before .before .before .before .before
+
+zeros-requires : tie.Need-zeros-requires
+zeros-requires c κs = search needs
+
+zeros-requires-2 : tie.Need-zeros-requires-2
+zeros-requires-2 c κs = search needs
 
 sum-up-requires : tie.Need-sum-up-requires
-sum-up-requires c κs = search needs
+sum-up-requires c κs =
+    let sums = c .before .before .before in
+    let start = sums .before .before .before in
+    record { agents = start .pre .1; held = start .pre .0; noSums = sums .zeros .ensures; noUps = c .before .before .zeros2 .ensures }
 
 first-envious-requires : tie.Need-first-envious-requires
 first-envious-requires c κs = search needs
@@ -67,6 +76,8 @@ pub envy-verdict-spec : {M : Type 1} → statement M
 envy-verdict-spec =
     tie.close
     (tie.spec
+    zeros-requires
+    zeros-requires-2
     sum-up-requires
     first-envious-requires
     returns

@@ -1,7 +1,7 @@
 -- `steps::step_2a` meets its contract.
 use mathlib.Core.Path.{refl}
 use borrow.Author.Needs.{needs}
-use Rattle.steps.proofs.Ready.{held, owned}
+use Rattle.steps.proofs.Ready.{held, summing, owned}
 use Rattle.steps.proofs.Staged.{Chose, passes-giver, passes-receiver, passes-sum, chore-there, hands-on}
 use Rattle.steps.proofs.step_2a.Statement.{statement}
 use Rattle.steps.proofs.step_2a.Tie as tie
@@ -11,20 +11,24 @@ abbrev start : tie.After-agents → tie.Start
 start c = c .before .before .before .before .before .before .before
 
 abbrev summed : tie.After-least-after → tie.After-sum-up
-summed c = c .before .before .before .before .before .before
+summed c = c .before .before .before .before
+
+abbrev read : tie.After-sum-up → tie.After-agents
+read c = c .before .before .before .before .before .before
 
 choices :
     (c : tie.After-least-after)
-    → let read = summed c .before .before in
-    let args = start read .args in
-    let totals = summed c .sum-up .result in
-    Chose (args .sheet .now) (args .owners .now) (args .prices .now) (args .groups .now) (args .entitled .now) (args .likes .now) (args .cuts) (args .stage) (read .agents .result) (totals .sums) (totals .ups) (c .before .before .greatest-in .result) (c .least-after .result)
+    → let agents = read (summed c) in
+    let args = start agents .args in
+    let lent = summed c .sum-up .last .1 .1 .1 in
+    Chose (args .sheet .now) (args .owners .now) (args .prices .now) (args .groups .now) (args .entitled .now) (args .likes .now) (args .cuts) (args .stage) (agents .agents .result) (lent .0) (lent .1 .0) (c .before .before .greatest-in .result) (c .least-after .result)
 choices c =
-    let read = summed c .before .before in
+    let agents = read (summed c) in
+    let pre = start agents .pre in
     record {
-      turning = start read .pre .0;
-      some = start read .pre .1;
-      agents = read .agents .ensures .is;
+      turning = pre .0;
+      some = pre .1;
+      agents = agents .agents .ensures .is;
       summed = summed c .sum-up .ensures;
       giver = c .before .before .greatest-in .ensures;
       receiver = c .least-after .ensures;
@@ -33,8 +37,17 @@ choices c =
 agents-requires : tie.Need-agents-requires
 agents-requires c κs = search needs
 
+zeros-requires : tie.Need-zeros-requires
+zeros-requires c κs = search needs
+
+zeros-requires-2 : tie.Need-zeros-requires-2
+zeros-requires-2 c κs = search needs
+
 sum-up-requires : tie.Need-sum-up-requires
-sum-up-requires c κs = held (start (c .before) .pre .0 .ready)
+sum-up-requires c κs =
+    let sums = c .before .before .before .before in
+    let agents = sums .before in
+    summing (start agents .pre .0 .ready) (agents .agents .ensures .is) (sums .zeros .ensures) (c .before .before .before .zeros2 .ensures)
 
 slice-aggregate-greatest-in : tie.Need-slice-aggregate-greatest-in
 slice-aggregate-greatest-in c = search needs
@@ -63,7 +76,7 @@ array-read-if3-2 c = search needs
 first-free-requires : tie.Need-first-free-requires
 first-free-requires c κs =
     let chose = c .before .before .before .before in
-    let ready = start (summed chose .before .before) .pre .0 .ready in
+    let ready = start (read (summed chose)) .pre .0 .ready in
     (owned ready .entitledSized, held ready .numbered)
 
 cast-owners : tie.Need-cast-owners
@@ -109,6 +122,8 @@ step-2a-spec =
     tie.close
     (tie.spec
     agents-requires
+    zeros-requires
+    zeros-requires-2
     sum-up-requires
     slice-aggregate-greatest-in
     greatest-in-requires

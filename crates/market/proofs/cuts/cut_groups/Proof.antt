@@ -5,7 +5,7 @@ use mathlib.Core.Logic.{⊎-elim}
 use native.Mathlib.Omega.{arith}
 use lib.ListN.{length}
 use Rattle.finite.specs.Bits.{bit}
-use Rattle.market.proofs.Rewriting.{Rewritten, rewritten-none, rewritten-set, rewritten-skip, rewritten-all}
+use Rattle.finite.proofs.Rewriting.{Rewritten, rewritten-none, rewritten-set, rewritten-skip, rewritten-all}
 use borrow.Author.Needs.{needs}
 use Rattle.market.proofs.cuts.cut_groups.Statement.{statement}
 use Rattle.market.proofs.cuts.cut_groups.Tie as tie

@@ -9,7 +9,7 @@ use native.Mathlib.Nat.{mul-le-mul, le-refl}
 use Rattle.model.specs.Limits.{maxPrice, maxWeight}
 use Rattle.finite.specs.Bits.{bit}
 use Rattle.model.specs.Instance.{ownerOf}
-use Rattle.market.proofs.Rewriting.{Rewritten, rewritten-none, rewritten-set, rewritten-skip, rewritten-all}
+use Rattle.finite.proofs.Rewriting.{Rewritten, rewritten-none, rewritten-set, rewritten-skip, rewritten-all}
 use borrow.Author.Needs.{needs}
 use Rattle.market.proofs.cuts.cut_prices.Statement.{statement}
 use Rattle.market.proofs.cuts.cut_prices.Tie as tie

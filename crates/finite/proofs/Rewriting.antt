@@ -1,4 +1,5 @@
 -- Laws for a loop that rewrites in place those entries of a list that pass a test.
+-- Assumes nothing.
 use Prim.Native.Nat.{ℕ, _+_, _≤_, _<_}
 use mathlib.Core.Bool.{Bool, true, false, cond}
 use mathlib.Core.List.{List}
@@ -6,9 +7,9 @@ use mathlib.Core.Path.{_≡_, refl, sym, _∙_}
 use native.Mathlib.Omega.{arith}
 use lib.ListN.{length, getD, set, take, length-set}
 use lib.Seq.{getD-set-other}
 use Rattle.finite.specs.Lists.{tabulate}
 use Rattle.finite.proofs.Tests.{cond-true, cond-false}
-use Rattle.finite.proofs.Lists.{fill-zero, fill-next, fill-keep, fill-done}
+use Rattle.finite.proofs.Lists.{fill-zero, fill-next, fill-keep, fill-done, fill-at}
 
 -- the first k entries are rewritten, the others as they were
 pub record Rewritten (k : ℕ) (t : ℕ → Bool) (f : ℕ → ℕ) (old new : List ℕ) : Type 0 where
@@ -40,3 +41,6 @@ module _ {k : ℕ} {t : ℕ → Bool} {f : ℕ → ℕ} {old new : List ℕ} whe
 
 pub rewritten-all : {n : ℕ} {t : ℕ → Bool} {f : ℕ → ℕ} {old new : List ℕ} → Rewritten n t f old new → length old ≡ n → new ≡ tabulate n (λ i. cond (t i) (f i) (getD old i 0))
 rewritten-all {new = new} s e = fill-done _ new (s .sized ∙ e) (s .front)
+
+pub rewritten-at : {n : ℕ} {t : ℕ → Bool} {f : ℕ → ℕ} {old new : List ℕ} → Rewritten n t f old new → (i : ℕ) → i < n → getD new i 0 ≡ cond (t i) (f i) (getD old i 0)
+rewritten-at {new = new} s i l = fill-at _ new i 0 l (s .front)
