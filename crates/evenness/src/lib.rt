@@ -3,6 +3,7 @@
 ghost use mathlib.Core.Path.{_≡_};
 ghost use Prim.Native.Nat.{_<_};
 ghost use mathlib.Core.Bool.{cond};
+ghost use lib.ListN.{replicate};
 ghost use Rattle.finite.specs.Search.{firstBelow};
 ghost use Rattle.finite.specs.Lists.{Table};
 ghost use Rattle.model.specs.Limits.{maxAgents};
@@ -14,21 +15,20 @@ ghost use Rattle.welfare.specs.Waste.{burdened};
 ghost use Rattle.given.specs.Given.{Given};
 
 // For each agent what its chores cost, or would cost, agent i: each chore's cost is added to the sum of its owner.
-fn costs_to(sheet: &[u8], owners: &[u8], m: usize, i: usize) -> [u32; model::MAX_AGENTS]
+fn add_costs(sheet: &[u8], owners: &[u8], m: usize, i: usize, sums: &mut [u32; model::MAX_AGENTS])
     requires { ⌜ Given (now sheet) (now owners) (agentsOf (now sheet)) m ⌝ }
     requires { ⌜ i < agentsOf (now sheet) ⌝ }
-    ensures { λ r. ⌜ Table maxAgents (costTo (asMarked (now (sheet .entry))) (ownerOf (now (owners .entry))) i) r ⌝ }
+    requires { ⌜ now sums ≡ replicate maxAgents 0 ⌝ }
+    ensures { λ _. ⌜ Table maxAgents (costTo (asMarked (now (sheet .entry))) (ownerOf (now (owners .entry))) i) (now (sums .exit)) ⌝ }
 {
     let a = sheet::easy_weight(sheet);
     let b = sheet::difficult_weight(sheet);
-    let mut sums = totals::zeros();
     let mut c = 0;
     while c < m {
         let j = given::owner(owners, c);
         sums[j] += given::cost(sheet, m, a, b, i, c);
         c += 1;
     }
-    sums
 }
 
 // What is taken off for agent i: the weight of its costliest chore. Without chores i envies nobody, and either weight will do.
@@ -52,7 +52,8 @@ pub fn first_envied(sheet: &[u8], owners: &[u8], n: usize, m: usize, i: usize) -
     requires { ⌜ i < n ⌝ }
     ensures { λ r. ⌜ r ≡ firstBelow n (envies (asMarked (now (sheet .entry))) (ownerOf (now (owners .entry))) i) ⌝ }
 {
-    let sums = costs_to(sheet, owners, m, i);
+    let mut sums = totals::zeros();
+    add_costs(sheet, owners, m, i, &mut sums);
     let own = sums[i];
     let off = costliest(sheet, owners, m, i);
     // Nothing is left of what i's chores cost: nobody's cost less.

@@ -8,13 +8,16 @@ use Rattle.evenness.proofs.first_envied.Statement.{statement}
 use Rattle.evenness.proofs.first_envied.Tie as tie
 
 -- back from where the sums are known to the start
-abbrev start : tie.After-costs-to → tie.Start
-start c = c .before .before .before
+abbrev start : tie.After-add-costs → tie.Start
+start c = c .before .before .before .before .before
 
-costs-to-requires : tie.Need-costs-to-requires
-costs-to-requires c κs =
-    let p = c .before .before .pre in
-    (given-agents (p .0), omega (arith, p .0 .agents))
+zeros-requires : tie.Need-zeros-requires
+zeros-requires c κs = search needs
+
+add-costs-requires : tie.Need-add-costs-requires
+add-costs-requires c κs =
+    let p = c .before .before .before .before .pre in
+    (given-agents (p .0), (omega (arith, p .0 .agents), c .before .zeros .ensures))
 
 mul-own : tie.Need-mul-own
 mul-own c = search needs
@@ -31,7 +34,7 @@ returns : tie.Need-returns
 returns c =
     let costs = c .before .before in
     let p = start costs .pre in
-    envied-none (p .0) _ (p .1) (costs .costs-to .ensures) (c .before .costliest .ensures) (c .if1 .taken)
+    envied-none (p .0) _ (p .1) (costs .add-costs .ensures) (c .before .costliest .ensures) (c .if1 .taken)
 
 sub-first-below : tie.Need-sub-first-below
 sub-first-below c = search needs
@@ -44,13 +47,14 @@ returns-2 c =
     let off = c .before .before .before in
     let costs = off .before in
     let p = start costs .pre in
-    c .first-below .ensures ∙ envied-first (p .0) _ (p .1) (costs .costs-to .ensures) (off .costliest .ensures)
+    c .first-below .ensures ∙ envied-first (p .0) _ (p .1) (costs .add-costs .ensures) (off .costliest .ensures)
 
 pub first-envied-spec : {M : Type 1} → statement M
 first-envied-spec =
     tie.close
     (tie.spec
-    costs-to-requires
+    zeros-requires
+    add-costs-requires
     mul-own
     array-read-own
     costliest-requires
