@@ -114,15 +114,14 @@ pub fn step_2b(
 {
     let n = sheet::agents(sheet);
     let seen = look(sheet, owners, prices, groups, entitled, likes);
-    let giver = seen.giver;
     let reached = seen.reached;
-    if giver < n {
+    if seen.giver < n {
         return hand_over(
             n,
             owners,
             entitled,
             likes,
-            giver,
+            seen.giver,
             seen.takers,
             seen.free,
             seen.grouped,

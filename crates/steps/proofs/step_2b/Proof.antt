@@ -21,7 +21,7 @@ look-requires c κs = search needs
 hand-over-requires : tie.Need-hand-over-requires
 hand-over-requires c κs =
     let found = c .before .before in
-    let seen = found .before in
+    let seen = found .before .before in
     let n-is = read seen .agents .ensures .is in
     rw n-is (handing (start (read seen) .pre) (seen .look .ensures) (rw n-is at (found .if1 .taken)))
 
@@ -41,20 +41,20 @@ returns : tie.Need-returns
 returns c =
     let handed = c .before .before in
     let found = handed .before .before .before in
-    let seen = found .before in
+    let seen = found .before .before in
     let n-is = read seen .agents .ensures .is in
     moves-on (start (read seen) .pre) (seen .look .ensures) (rw n-is at (found .if1 .taken)) (rw n-is at (handed .hand-over .ensures))
 
 easy-weight-requires : tie.Need-easy-weight-requires
-easy-weight-requires c κs = let seen = c .before .before in start (read seen) .pre .ready .valid .header
+easy-weight-requires c κs = let seen = c .before .before .before in start (read seen) .pre .ready .valid .header
 
 difficult-weight-requires : tie.Need-difficult-weight-requires
-difficult-weight-requires c κs = let seen = c .before .before .before in start (read seen) .pre .ready .valid .header
+difficult-weight-requires c κs = let seen = c .before .before .before .before in start (read seen) .pre .ready .valid .header
 
 cut-prices-requires : tie.Need-cut-prices-requires
 cut-prices-requires c κs =
     let weighed = c .before .before .before in
-    let seen = weighed .before .before .before .before in
+    let seen = weighed .before .before .before .before .before in
     rw (weighed .before .easy-weight .ensures .is, weighed .difficult-weight .ensures .is) (cutting (start (read seen) .pre))
 
 -- from where the groups are written back to the cut of the prices, and from there to the search
@@ -62,7 +62,7 @@ abbrev cutAt : tie.After-cut-groups-arg → tie.After-cut-prices
 cutAt c = c .before .before .before .before .before
 
 abbrev seenAt : tie.After-cut-prices → tie.After-look
-seenAt c = c .before .before .before .before .before .before .before .before
+seenAt c = c .before .before .before .before .before .before .before .before .before
 
 add-cut-groups : tie.Need-add-cut-groups
 add-cut-groups c = record { fits = omega (arith, cuts-fit (start (read (seenAt (cutAt c))) .pre)) }
@@ -88,7 +88,7 @@ returns-2 c =
     let cut = cutAt (grouped .before) in
     let weighed = cut .before .before .before .before in
     let none = weighed .before .before in
-    let seen = none .before .before in
+    let seen = none .before .before .before in
     let n-is = read seen .agents .ensures .is in
     cuts-on (start (read seen) .pre) (seen .look .ensures) (omega (arith, n-is, none .before .if1 .left)) (none .if2 .taken)
     (weighed .before .easy-weight .ensures .is) (weighed .difficult-weight .ensures .is) (cut .cut-prices .ensures) (grouped .cut-groups .ensures)
@@ -107,7 +107,7 @@ same-length-12 c = search needs
 
 returns-3 : tie.Need-returns-3
 returns-3 c =
-    let seen = c .before .before in
+    let seen = c .before .before .before in
     let n-is = read seen .agents .ensures .is in
     stops-here (start (read seen) .pre) (seen .look .ensures) (rw n-is at (c .before .if1 .left)) (c .if2 .left)
 
