@@ -23,7 +23,7 @@ hand-over-requires c κs =
     let found = c .before .before in
     let seen = found .before .before in
     let n-is = read seen .agents .ensures .is in
-    rw n-is (handing (start (read seen) .pre) (seen .look .ensures) (rw n-is at (found .if1 .taken)))
+    rw n-is (handing (start (read seen) .pre) (seen .look .ensures) (omega (arith, n-is, found .if1 .taken)))
 
 same-length : tie.Need-same-length
 same-length c = search needs
@@ -43,7 +43,7 @@ returns c =
     let found = handed .before .before .before in
     let seen = found .before .before in
     let n-is = read seen .agents .ensures .is in
-    moves-on (start (read seen) .pre) (seen .look .ensures) (rw n-is at (found .if1 .taken)) (rw n-is at (handed .hand-over .ensures))
+    moves-on (start (read seen) .pre) (seen .look .ensures) (omega (arith, n-is, found .if1 .taken)) (rw n-is at (handed .hand-over .ensures))
 
 easy-weight-requires : tie.Need-easy-weight-requires
 easy-weight-requires c κs = let seen = c .before .before .before in start (read seen) .pre .ready .valid .header
@@ -109,7 +109,7 @@ returns-3 : tie.Need-returns-3
 returns-3 c =
     let seen = c .before .before .before in
     let n-is = read seen .agents .ensures .is in
-    stops-here (start (read seen) .pre) (seen .look .ensures) (rw n-is at (c .before .if1 .left)) (c .if2 .left)
+    stops-here (start (read seen) .pre) (seen .look .ensures) (omega (arith, n-is, c .before .if1 .left)) (c .if2 .left)
 
 pub step-2b-spec : {M : Type 1} → statement M
 step-2b-spec =
