@@ -45,7 +45,7 @@ extern "C" {
 #endif
 
 /* The release that this header is of. */
-#define SHARES_VERSION "6.2.3"
+#define SHARES_VERSION "6.2.4"
 #define SHARES_VERSION_MAJOR 6
 #define SHARES_VERSION_MINOR 2
 #define SHARES_VERSION_PATCH 3

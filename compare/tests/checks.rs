@@ -1,9 +1,10 @@
 //! The two checks against the second program: every answer, and every list that is shown.
 
-use compare::lists::{damaged_given, judged, near_accepted, near_fair};
+use compare::lists::{bytes, damaged_given, judged, near_accepted, near_fair};
 use compare::random::{self, Random};
 use compare::{shapes, PROVED};
-use reference::{check_list, is_small_enough, price_bytes, ListVerdict};
+use reference::limits::{MAX_AGENTS, MAX_CHORES, MAX_PRICE};
+use reference::{check_list, compose, is_small_enough, price_bytes, ListVerdict};
 
 const SMALL: usize = 20_000;
 const LARGE: usize = 2_000;
@@ -100,4 +101,22 @@ fn price_lists_get_the_same_verdict() {
         accepted += usize::from(verdict == reference::PriceVerdict::Accepted);
     }
     assert!(accepted > SMALL / 20 && accepted < SMALL, "{accepted}");
+}
+
+/// Sums at their greatest: every price at its limit, and few who hold them.
+#[test]
+fn greatest_prices_get_the_same_verdict() {
+    let mut random = Random::new(5);
+    let prices = bytes(vec![MAX_PRICE; MAX_CHORES]);
+    for _ in 0..LARGE {
+        let agents = 1 + random.below(MAX_AGENTS);
+        let sheet = compose::sheet(999, 1000, &vec!["e".repeat(MAX_CHORES); agents]);
+        let holders = 1 + random.below(agents);
+        let owners = random::owners(&mut random, holders, MAX_CHORES);
+        assert_eq!(
+            PROVED.check_prices(&sheet, &owners, &prices),
+            price_bytes::check(&sheet, &owners, &prices),
+            "{agents} {owners:?}"
+        );
+    }
 }

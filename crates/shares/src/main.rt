@@ -31,7 +31,7 @@ fn main() {
     match arguments::what_is_asked() {
         Asked::Share => share_out(),
         Asked::Help => output::put_usage(STDOUT_FILENO),
-        Asked::Version => output::put(STDOUT_FILENO, b"shares 6.2.3\n"),
+        Asked::Version => output::put(STDOUT_FILENO, b"shares 6.2.4\n"),
         Asked::Unknown => output::put_usage(STDERR_FILENO),
     }
 }
