@@ -48,7 +48,7 @@ extern "C" {
 #define SHARES_VERSION "6.2.4"
 #define SHARES_VERSION_MAJOR 6
 #define SHARES_VERSION_MINOR 2
-#define SHARES_VERSION_PATCH 3
+#define SHARES_VERSION_PATCH 4
 
 /* Limits: 1 to 32 agents, 0 to 200 chores, 1 <= a < b <= 1,000. */
 #define SHARES_MAX_AGENTS 32

@@ -1,4 +1,4 @@
--- What the sweep over the chores is given, and what it leaves.
+-- Price sums "all in one pass over the reels": what the pass is given, and what it leaves.
 use Prim.Native.Nat.{ℕ, _-_, _≤_, _<_}
 use mathlib.Core.List.{List}
 use mathlib.Core.Path.{_≡_}
@@ -12,7 +12,7 @@ use Rattle.model.specs.Prices.{priceSum, dearest, priceUpToOne}
 abbrev pub mostChores : ℕ
 mostChores = 4000
 
--- owners from 1 to 32 and prices up to 1,000,000, for as many chores
+-- at most so many chores, each with an owner from 1 to 32 and a price up to 1,000,000
 pub record Held (owners prices : List ℕ) : Type 0 where
   pub chores : length owners ≤ mostChores
   pub pricesSized : length prices ≡ length owners
@@ -43,8 +43,8 @@ pub record TakenOff (n : ℕ) (sums tops rests : List ℕ) : Type 0 where
   pub size : length rests ≡ length tops
   pub rest : (i : ℕ) → i < n → getD rests i 0 ≡ getD sums i 0 - getD tops i 0
 
--- "adding each price to its owner's sum. Each must be shown equal to the sum of the prices that person holds": each agent's sum, and the
--- price up to one of n agents
+-- Document 02, request 6: "adding each price to its owner's sum. Each must be shown equal to the sum of the prices that person holds": each
+-- agent's sum, and the price up to one of n agents.
 pub record Summed (n : ℕ) (owners prices sums ups : List ℕ) : Type 0 where
   pub sum : Table maxAgents (priceSum (length owners) (ownerOf owners) (priceOf prices)) sums
   pub size : length ups ≡ maxAgents

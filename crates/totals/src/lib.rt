@@ -27,7 +27,7 @@ fn take_off(n: usize, sums: &[u32; model::MAX_AGENTS], dearest: &mut [u32; model
 }
 
 // Each price is added to its owner's sum. `ups` gets each agent's dearest price, and then, for the first n, the price up to one. Both are
-// lent: arrays returned in a struct are copied, which made a share-out up to 7 % slower.
+// lent, since arrays that are returned are copied, once a move.
 pub fn sum_up(
     n: usize,
     owners: &[u8],

@@ -1,21 +1,20 @@
 -- What it means that the price check answers `accepted`.
 -- Assumes nothing.
-use Prim.Native.Nat.{ℕ, _+_, _≤_, _<_}
+use Prim.Native.Nat.{ℕ, _≤_, _<_}
 use mathlib.Core.Bool.{Bool, true, false, cond, not}
 use mathlib.Core.Path.{_≡_, refl, sym}
 use native.Mathlib.Nat.{le-of-eq}
 use native.Mathlib.Omega.{arith}
 use lib.Dec.{ltb}
-use borrow.Author.Tests.{ltb-false, le-ltb, lt-ltb, not-false}
-use Rattle.finite.specs.Search.{First}
+use borrow.Author.Tests.{ltb-false, le-ltb, not-false}
 use Rattle.finite.proofs.Tests.{by-test, and-rest, and-no-left, and-no-right, not-off}
-use Rattle.finite.proofs.Search.{first-before, first-none-intro, first-unique}
+use Rattle.finite.proofs.Search.{first-before, first-none-intro}
 use Rattle.model.specs.Instance.{Instance}
 use Rattle.model.specs.Fairness.{holdsAny}
 use Rattle.model.specs.Prices.{best, priceSum, priceUpToOne}
 use Rattle.model.specs.Replies.{offPrice, priceEnvy, accepted}
 use Rattle.model.specs.Verdicts.{firstOfPair, firstOffPrice, enviesByPrice, priceVerdict}
-use Rattle.model.proofs.Pairs.{FirstPair, pair-first, pair-second, pair-none, pair-none-elim}
+use Rattle.model.proofs.Pairs.{pair-none, pair-none-elim}
 
 -- each chore is best for its owner, and nobody's price-one is above anybody's price sum
 pub record Priced (I : Instance) (x p : ℕ → ℕ) : Type 0 where
@@ -58,14 +57,3 @@ module _ (I : Instance) (x p : ℕ → ℕ) where
   accepted-intro h =
       let none = pair-none (I .n) (enviesByPrice I x p) (λ i j l k. envy-none i j (h .no-envy i j l k)) in
       rw (le-ltb (firstOffPrice I x p) (I .m) (le-of-eq (sym (all-best (h .best-owned)))), le-ltb (firstOfPair (I .n) (enviesByPrice I x p)) (I .n) (le-of-eq (sym none)))
-
-  -- the other two answers: the first chore that is not best for its owner, and the first pair that envies by price
-
-  pub verdict-off : {r : ℕ} → First (I .m) (λ c. not (best I p (x c) c)) r → priceVerdict I x p ≡ offPrice (r + 1)
-  unfolding priceVerdict firstOffPrice
-  verdict-off {r} f = rw (first-unique f, lt-ltb r (I .m) (f .below))
-
-  pub verdict-envy : {i j : ℕ} → ((c : ℕ) → c < I .m → best I p (x c) c ≡ true) → FirstPair (I .n) (enviesByPrice I x p) i j → priceVerdict I x p ≡ priceEnvy (i + 1) (j + 1)
-  unfolding priceVerdict
-  verdict-envy {i} all f =
-      rw (le-ltb (firstOffPrice I x p) (I .m) (le-of-eq (sym (all-best all))), pair-first f, pair-second f, lt-ltb i (I .n) (f .left))
