@@ -4,7 +4,6 @@ use Prim.Native.Nat.{ℕ, suc, _≤_, _<_}
 use mathlib.Core.List.{List}
 use mathlib.Core.Path.{_≡_, refl, ap, _∙_}
 use native.Mathlib.Omega.{arith}
-use lib.ListN.{length}
 use Rattle.model.specs.Limits.{maxAgents}
 use Rattle.model.specs.Sheet.{agentsOf, choresOf, asRead}
 use Rattle.model.specs.MostMoves.{mostMoves, mostEver}

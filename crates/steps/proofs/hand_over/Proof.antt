@@ -1,6 +1,5 @@
 -- `steps::hand_over` meets its contract.
 use Prim.Native.Nat.{_<_}
-use mathlib.Core.Path.{refl}
 use native.Mathlib.Omega.{arith}
 use borrow.Author.Needs.{needs}
 use Rattle.model.specs.Limits.{maxAgents}
