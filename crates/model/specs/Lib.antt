@@ -7,6 +7,7 @@ pub mod Prices
 pub mod Step2a
 pub mod Step2b
 pub mod Algorithm
+pub mod Record
 pub mod Refusals
 pub mod Replies
 pub mod Verdicts

@@ -14,8 +14,9 @@ use Rattle.model.specs.Instance.{ownerOf}
 use Rattle.model.specs.Sheet.{agentsOf, choresOf, asMarked, asRead}
 use Rattle.model.specs.Contents.{sheetCount, sheetOf}
 use Rattle.model.specs.Fairness.{ef1, dominates, isAllocation}
-use Rattle.model.specs.Algorithm.{State, lacking, after, Ends}
-use Rattle.model.specs.Refusals.{allocateRefusal, lookupRefusal, bookRefusal}
+use Rattle.model.specs.Algorithm.{State, lacking, opening, after, Ends}
+use Rattle.model.specs.Record.{Move, movesIn, moveSize, recordOf, played, moveAt}
+use Rattle.model.specs.Refusals.{sheetRefusal, allocateRefusal, recordedRefusal, lookupRefusal, bookRefusal}
 use Rattle.model.specs.Replies.{Reply, refused, shared, absent, holds, wasteful, accepted, shareOutReply, listReply, priceReply, replyAt}
 use Rattle.model.specs.Verdicts.{listCheck, priceCheck}
 use Rattle.model.specs.MostMoves.{roundMoves, mostMoves}
@@ -73,6 +74,48 @@ pub record Allocated (s owners prices scratch owners′ prices′ scratch′ : L
   pub turnedDown :
       (allocateRefusal s (length owners) (length prices) (length scratch) ≡ 0 → ⊥)
       → NotShared (allocateRefusal s (length owners) (length prices) (length scratch)) owners prices scratch owners′ prices′ scratch′ r
+
+-- One move on the sheet s, over the owners that it finds.
+pub record Handed (s owners : List ℕ) (t : Move) : Type 0 where
+  pub chore : t .chore < choresOf s
+  pub giver : t .giver < agentsOf s
+  pub receiver : t .receiver < agentsOf s
+  pub owns : ownerOf owners (t .chore) ≡ t .giver
+  pub apart : t .giver ≡ t .receiver → ⊥
+
+-- The moves of the run of Algorithm 1 on a sheet that breaks no rule.
+pub record RunMoves (s : List ℕ) (moves : List Move) : Type 0 where
+  pub final : State
+  pub ends : Ends (asRead s) final
+  -- "for each move, in the order made"
+  pub inOrder : moves ≡ movesIn (asRead s) (ends .steps)
+  -- "The record played over the opening list must give the final list"
+  pub gives : played moves (opening (asRead s) .owners) ≡ final .owners
+  -- "and its length is the number of moves."
+  pub count : length moves ≡ final .moves
+  -- each giver owns its chore when it is handed over, and is not the receiver
+  pub handed : (k : ℕ) → k < length moves → Handed s (played (take k moves) (opening (asRead s) .owners)) (moveAt moves k)
+  -- rounds never fall, and end with the one after the last cut, or before
+  pub inRounds : (j k : ℕ) → j ≤ k → k < length moves → moveAt moves j .round ≤ moveAt moves k .round
+  pub lastRound : (k : ℕ) → k < length moves → moveAt moves k .round ≤ final .cuts + 1
+
+-- The moves stand first in the record, and "the rest of the record buffer keeps its content."
+pub record Written (moves : List Move) (bytes bytes′ : List ℕ) : Type 0 where
+  pub first : take (moveSize * length moves) bytes′ ≡ recordOf moves
+  pub rest : drop (moveSize * length moves) bytes′ ≡ drop (moveSize * length moves) bytes
+
+-- The share-out with a record of its moves: `allocate_recorded(sheet, owners, prices, scratch, record)`.
+pub record Recorded (s owners prices scratch bytes owners′ prices′ scratch′ bytes′ : List ℕ) (r : ShareOut) : Type 0 where
+  pub moves : List Move
+  pub run : sheetRefusal s ≡ 0 → RunMoves s moves
+  -- "What was promised for the share-out without a record holds with one."
+  pub notRefused :
+      recordedRefusal s (length owners) (length prices) (length scratch) (length moves) (length bytes) ≡ 0
+      → Allocated s owners prices scratch owners′ prices′ scratch′ r × Written moves bytes bytes′
+  pub turnedDown :
+      (recordedRefusal s (length owners) (length prices) (length scratch) (length moves) (length bytes) ≡ 0 → ⊥)
+      → NotShared (recordedRefusal s (length owners) (length prices) (length scratch) (length moves) (length bytes)) owners prices scratch owners′ prices′ scratch′ r
+      × (bytes′ ≡ bytes)
 
 -- The list written with `wasteful`. It is free but for this: m owners from 1 to n, and it dominates the list handed in.
 pub record Dominating (s owners lent lent′ : List ℕ) : Type 0 where

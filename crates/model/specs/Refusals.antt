@@ -1,4 +1,4 @@
--- Document 01, "Numbers for what is turned down": the number of each call's refusal, 0 where it is not turned down.
+-- Document 01, "Numbers for what is turned down", and document 02: the number of each call's refusal, 0 where it is not turned down.
 use Prim.Native.Nat.{ℕ, _+_, _*_}
 use mathlib.Core.Bool.{Bool, cond, not, _&&_, _||_}
 use mathlib.Core.List.{List}
@@ -9,6 +9,7 @@ use Rattle.model.specs.Limits.{maxAgents, maxChores, maxWeight, maxPrice
 use Rattle.model.specs.Sheet.{agentsOf, choresOf, easyWeight, difficultWeight, headerSize, sheetLength, easyMark, difficultMark}
 use Rattle.model.specs.Contents.{sheetCount, bookFits}
 use Rattle.model.specs.Fairness.{ownersInRange}
+use Rattle.model.specs.Record.{moveSize}
 
 infixr 25 _orElse_
 -- the first refusal, or else the second
@@ -85,6 +86,16 @@ allocateRefusal s owners prices scratch =
     orElse lentRefusal (choresOf s) owners
     orElse lentRefusal (choresOf s) prices
     orElse lentRefusal scratchSize scratch
+
+-- 11: "A record buffer that the run's moves don't fit", with so many moves and so many bytes
+unfoldable pub recordRefusal : ℕ → ℕ → ℕ
+recordRefusal moves bytes = 11 when ltb bytes (moveSize * moves)
+
+-- the share-out with a record: 11 is "tested after 8"
+unfoldable pub recordedRefusal : List ℕ → ℕ → ℕ → ℕ → ℕ → ℕ → ℕ
+recordedRefusal s owners prices scratch moves bytes =
+    allocateRefusal s owners prices scratch
+    orElse recordRefusal moves bytes
 
 -- the list check, with the length of the list lent for a dominating one
 unfoldable pub listRefusal : List ℕ → List ℕ → ℕ → ℕ
