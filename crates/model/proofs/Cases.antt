@@ -18,8 +18,9 @@ use Rattle.model.specs.Instance.{Instance, ownerOf}
 use Rattle.model.specs.Sheet.{asMarked, asRead}
 use Rattle.model.specs.Fairness.{dominates, isAllocation}
 use Rattle.model.specs.Algorithm.{Outcome, busy, done, lacking, after}
+use Rattle.model.specs.Record.{movesIn, recordOf}
 use Rattle.model.specs.Refusals.{sheetRefusal}
-use Rattle.model.specs.Cases.{Case, shared-out, judged, lent, listed, shown, priced, Shares, Meets, MeetsAll}
+use Rattle.model.specs.Cases.{Case, shared-out, judged, lent, recorded, lent-record, listed, shown, priced, Shares, Records, Meets, MeetsAll}
 use Rattle.model.proofs.Allocations.{allocation-picks}
 
 -- what an outcome shows of a run that has ended
@@ -31,6 +32,11 @@ unfoldable pub seen : Outcome → Seen
 seen (busy x) = unended
 seen (done x) = ended (x .owners) (x .prices) (x .moves) (x .cuts)
 seen (lacking x) = unended
+
+unfoldable pub isDone : Outcome → Bool
+isDone (busy x) = false
+isDone (done x) = true
+isDone (lacking x) = false
 
 -- some chore has another owner in y than in z
 unfoldable pub differs : ℕ → List ℕ → List ℕ → Bool
@@ -45,6 +51,8 @@ unfoldable pub Computed : ℕ → Case → Type 0
 Computed enough (shared-out s owners prices moves cuts) = (sheetRefusal s ≡ 0) × (seen (after (asRead s) enough) ≡ ended owners prices moves cuts)
 Computed enough (judged s k) = Meets (judged s k)
 Computed enough (lent s owners prices scratch k) = Meets (lent s owners prices scratch k)
+Computed enough (recorded s bytes) = (sheetRefusal s ≡ 0) × (isDone (after (asRead s) enough) ≡ true) × (recordOf (movesIn (asRead s) enough) ≡ bytes)
+Computed enough (lent-record s owners prices scratch moves bytes k) = Meets (lent-record s owners prices scratch moves bytes k)
 Computed enough (listed s owners answer) = Meets (listed s owners answer)
 Computed enough (shown s owners other) =
     (isAllocation (asMarked s) other ≡ true)
@@ -71,6 +79,12 @@ ran s owners prices moves cuts k (done x) z e q =
       cuts-are = cc;
     }
 
+wrote : (s bytes : List ℕ) (k : ℕ) (o : Outcome) → sheetRefusal s ≡ 0 → after (asRead s) k ≡ o → isDone o ≡ true → recordOf (movesIn (asRead s) k) ≡ bytes → Records s bytes
+unfolding isDone
+wrote s bytes k (busy x) z e q b = let z : _≡_ {A = ℕ} 0 1 = cc in absurd (omega arith)
+wrote s bytes k (lacking x) z e q b = let z : _≡_ {A = ℕ} 0 1 = cc in absurd (omega arith)
+wrote s bytes k (done x) z e q b = record { taken = z; final = x; ends = record { steps = k; ends = e }; bytes-are = b }
+
 -- a search through all lists finds no other list that dominates
 no-other : (I : Instance) (x z y : List ℕ) → someList (I .n) (I .m) (dominatesToo I x z) ≡ false → isAllocation I z ≡ true → isAllocation I y ≡ true → dominates I (ownerOf y) (ownerOf x) ≡ true → y ≡ z
 unfolding dominatesToo differs
@@ -86,6 +100,8 @@ unfolding Computed Meets
 met enough (shared-out s owners prices moves cuts) h = ran s owners prices moves cuts enough (after (asRead s) enough) (h .0) refl (h .1)
 met enough (judged s k) h = h
 met enough (lent s owners prices scratch k) h = h
+met enough (recorded s bytes) h = wrote s bytes enough (after (asRead s) enough) (h .0) refl (h .1) (h .2)
+met enough (lent-record s owners prices scratch moves bytes k) h = h
 met enough (listed s owners answer) h = h
 met enough (shown s owners other) h =
     record {

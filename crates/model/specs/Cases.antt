@@ -11,7 +11,8 @@ use Rattle.model.specs.Instance.{ownerOf}
 use Rattle.model.specs.Sheet.{asMarked, asRead}
 use Rattle.model.specs.Fairness.{dominates, isAllocation}
 use Rattle.model.specs.Algorithm.{State, Ends}
-use Rattle.model.specs.Refusals.{sheetRefusal, allocateRefusal}
+use Rattle.model.specs.Record.{movesIn, recordOf}
+use Rattle.model.specs.Refusals.{sheetRefusal, allocateRefusal, recordedRefusal}
 use Rattle.model.specs.Replies.{Reply}
 use Rattle.model.specs.Verdicts.{listCheck, priceCheck}
 
@@ -39,6 +40,10 @@ pub data Case : Type 0 where
   judged : List ℕ → ℕ → Case
   -- the refusal number of a sheet's share-out, with lent owners, prices and scratch of so many entries
   lent : List ℕ → ℕ → ℕ → ℕ → ℕ → Case
+  -- the record of a sheet's share-out
+  recorded : List ℕ → List ℕ → Case
+  -- the refusal number of a share-out with a record, with lent owners, prices and scratch of so many entries, moves and bytes
+  lent-record : List ℕ → ℕ → ℕ → ℕ → ℕ → ℕ → ℕ → Case
   -- the list check's answer on a sheet and a list, with enough lent
   listed : List ℕ → List ℕ → Reply → Case
   -- on a sheet, a list, and the one list that dominates it
@@ -56,6 +61,13 @@ pub record Shares (s owners prices : List ℕ) (moves cuts : ℕ) : Type 0 where
   pub moves-are : final .moves ≡ moves
   pub cuts-are : final .cuts ≡ cuts
 
+-- The sheet is taken, and these bytes are the moves of its run.
+pub record Records (s bytes : List ℕ) : Type 0 where
+  pub taken : sheetRefusal s ≡ 0
+  pub final : State
+  pub ends : Ends (asRead s) final
+  pub bytes-are : recordOf (movesIn (asRead s) (ends .steps)) ≡ bytes
+
 -- `other` dominates the owners, and no list but this one does: it is what every right check shows.
 pub record Shows (s owners other : List ℕ) : Type 0 where
   pub allocation : isAllocation (asMarked s) other ≡ true
@@ -66,6 +78,8 @@ unfoldable pub Meets : Case → Type 0
 Meets (shared-out s owners prices moves cuts) = Shares s owners prices moves cuts
 Meets (judged s k) = sheetRefusal s ≡ k
 Meets (lent s owners prices scratch k) = allocateRefusal s owners prices scratch ≡ k
+Meets (recorded s bytes) = Records s bytes
+Meets (lent-record s owners prices scratch moves bytes k) = recordedRefusal s owners prices scratch moves bytes ≡ k
 Meets (listed s owners answer) = listCheck s owners (length owners) ≡ answer
 Meets (shown s owners other) = Shows s owners other
 Meets (priced s owners prices answer) = priceCheck s owners prices ≡ answer

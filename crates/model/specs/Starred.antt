@@ -5,7 +5,7 @@ use mathlib.Core.List.{List, [], _∷_}
 use lib.ListN.{replicate}
 use Rattle.model.specs.Sheet.{easyMark}
 use Rattle.model.specs.Replies.{holds, unfair, wasteful, offPrice, accepted}
-use Rattle.model.specs.Cases.{sheet, Case, shared-out, judged, lent, listed, shown, priced}
+use Rattle.model.specs.Cases.{sheet, Case, shared-out, judged, lent, recorded, lent-record, listed, shown, priced}
 
 unfoldable pub sheetC : List ℕ
 sheetC = sheet 1 3 ("eeeee" ∷ "dddde" ∷ [])
@@ -15,6 +15,10 @@ sheetD = sheet 1 2 ("eee" ∷ "eee" ∷ [])
 
 unfoldable pub sheetE : List ℕ
 sheetE = sheet 1 2 ("ed" ∷ "de" ∷ [])
+
+-- a sheet with a move in 2a
+unfoldable pub sheet2a : List ℕ
+sheet2a = sheet 1 3 ("deddddddd" ∷ "ddddddddd" ∷ "ddeddddde" ∷ [])
 
 -- n agents and one chore, easy for each; one agent and m chores, easy for it
 unfoldable pub agents : ℕ → List ℕ
@@ -37,8 +41,7 @@ table =
     ∷ shared-out sheetE (1 ∷ 2 ∷ []) (2 ∷ 2 ∷ []) 0 0
     ∷ shared-out (sheet 1 2 ("de" ∷ "de" ∷ [])) (2 ∷ 1 ∷ []) (4 ∷ 2 ∷ []) 1 0
     ∷ shared-out (sheet 1 3 ("eeedd" ∷ "ddded" ∷ "eeede" ∷ [])) (3 ∷ 1 ∷ 1 ∷ 2 ∷ 3 ∷ []) (3 ∷ 3 ∷ 3 ∷ 3 ∷ 3 ∷ []) 1 0
-    -- moves in 2a
-    ∷ shared-out (sheet 1 3 ("deddddddd" ∷ "ddddddddd" ∷ "ddeddddde" ∷ [])) (3 ∷ 1 ∷ 3 ∷ 1 ∷ 1 ∷ 3 ∷ 2 ∷ 2 ∷ 3 ∷ []) (3 ∷ 1 ∷ 1 ∷ 3 ∷ 3 ∷ 3 ∷ 3 ∷ 3 ∷ 1 ∷ []) 7 2
+    ∷ shared-out sheet2a (3 ∷ 1 ∷ 3 ∷ 1 ∷ 1 ∷ 3 ∷ 2 ∷ 2 ∷ 3 ∷ []) (3 ∷ 1 ∷ 1 ∷ 3 ∷ 3 ∷ 3 ∷ 3 ∷ 3 ∷ 1 ∷ []) 7 2
     -- several agents of least sum when a group is cut
     ∷ shared-out (sheet 1 2 ("ddded" ∷ "ddddd" ∷ "ddedd" ∷ [])) (1 ∷ 3 ∷ 3 ∷ 1 ∷ 2 ∷ []) (2 ∷ 2 ∷ 1 ∷ 1 ∷ 2 ∷ []) 3 1
     -- the giver's lowest chore in 2a is entitled
@@ -71,4 +74,11 @@ table =
     ∷ lent sheetC 5 5 1023 8
     ∷ lent sheetC 4 5 1024 8
     ∷ lent sheetC 5 4 1024 8
+    -- the record of sheet C, and of a sheet with a move in 2a
+    ∷ recorded sheetC (0 ∷ 5 ∷ 1 ∷ 2 ∷ 1 ∷ 2 ∷ 0 ∷ 1 ∷ 1 ∷ 2 ∷ 2 ∷ 2 ∷ 0 ∷ 2 ∷ 1 ∷ 2 ∷ 2 ∷ 2 ∷ [])
+    ∷ recorded sheet2a (0 ∷ 3 ∷ 2 ∷ 3 ∷ 1 ∷ 2 ∷ 0 ∷ 9 ∷ 2 ∷ 3 ∷ 1 ∷ 2 ∷ 0 ∷ 1 ∷ 2 ∷ 1 ∷ 2 ∷ 2 ∷ 0 ∷ 4 ∷ 2 ∷ 1 ∷ 2 ∷ 2 ∷ 0 ∷ 1 ∷ 1 ∷ 3 ∷ 3 ∷ 1 ∷ 0 ∷ 5 ∷ 2 ∷ 1 ∷ 3 ∷ 2 ∷ 0 ∷ 6 ∷ 2 ∷ 3 ∷ 3 ∷ 2 ∷ [])
+    -- a record of 18 bytes and of 17 for three moves; 11 comes after 8
+    ∷ lent-record sheetC 5 5 1024 3 18 0
+    ∷ lent-record sheetC 5 5 1024 3 17 11
+    ∷ lent-record sheetC 5 5 1023 3 17 8
     ∷ []
