@@ -57,6 +57,9 @@ pub struct BookResult {
 // The bytes of a sheet before its marks, as in specs/Sheet.antt.
 pub const HEADER_SIZE: usize = 6;
 
+// The bytes of a move in a record, as in specs/Record.antt.
+pub const MOVE_SIZE: usize = 6;
+
 // Document 01's limits, in the code's types; specs/Limits.antt has the same numbers.
 pub const MAX_AGENTS: usize = 32;
 
