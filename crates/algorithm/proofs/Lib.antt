@@ -15,4 +15,5 @@ pub mod Actions
 pub mod Machine
 pub mod Ending
 pub mod Begin
+pub mod RunMoves
 pub mod Theorem

@@ -2,22 +2,21 @@
 -- Assumes nothing.
 use Prim.Native.Nat.{ℕ, _+_, _-_, _*_, _≤_, _<_}
 use mathlib.Core.Bool.{true, false}
-use mathlib.Core.Path.{_≡_, sym, ap, subst, _∙_}
+use mathlib.Core.Path.{_≡_, sym, ap, subst}
 use native.Mathlib.Nat.{mul-le-mul-left, mul-le-mul-right}
 use native.Mathlib.Omega.{arith}
 use lib.Dec.{leb}
 use borrow.Author.Tests.{leb-true, le-leb}
 use Rattle.finite.specs.Search.{anyBelow, Hit}
-use Rattle.finite.specs.Moves.{Moves}
-use Rattle.finite.proofs.Tests.{by-test, clash}
+use Rattle.finite.proofs.Tests.{by-test}
 use Rattle.finite.proofs.Below.{by-less}
 use Rattle.finite.proofs.Search.{any-elim, any-intro, any-none}
 use Rattle.finite.proofs.Counts.{count-mono}
 use Rattle.model.specs.Instance.{Instance}
 use Rattle.model.specs.Prices.{priceSum, priceUpToOne}
-use Rattle.model.specs.Step2a.{giver2a, receiver2a, due2a, chore2a}
-use Rattle.model.specs.Step2b.{leastSum, above, within, reachable, due2b, ring2b, giver2b, receiver2b, chore2b}
-use Rattle.model.specs.Algorithm.{State, busy, done, hand, pass, cut, stop, owner, price, group, isEntitled, action, handed, passed, inNewGroup, afterCut, result, step}
+use Rattle.model.specs.Step2a.{receiver2a, due2a, chore2a}
+use Rattle.model.specs.Step2b.{leastSum, above, reachable, due2b, receiver2b, chore2b}
+use Rattle.model.specs.Algorithm.{State, Action, hand, pass, cut, stop, lack, busy, done, owner, price, group, isEntitled, action, handed, passed, inNewGroup, afterCut, result, step}
 use Rattle.model.specs.MostMoves.{roundMoves, mostMoves}
 use Rattle.algorithm.specs.Kinds.{Sound}
 use Rattle.algorithm.specs.Core.{Core}
@@ -25,12 +24,13 @@ use Rattle.algorithm.specs.Phases.{Entitled, Stage}
 use Rattle.algorithm.specs.Chain.{chainTop, held, Chain}
 use Rattle.algorithm.specs.Cuts.{NextRound}
 use Rattle.algorithm.specs.Theorem.{CleanCut}
+use Rattle.algorithm.specs.Hands.{Hands}
 use Rattle.algorithm.specs.Reached.{stepNumber, Shaped, Since, Place, in2a, in2b, Reached}
 use Rattle.algorithm.proofs.Best.{core-moved}
-use Rattle.algorithm.proofs.Rings.{is-above, not-above, least-low, due-found}
+use Rattle.algorithm.proofs.Rings.{is-above, not-above, least-low, due-found, due-hands}
 use Rattle.algorithm.proofs.Entitled.{entitled-moved}
 use Rattle.algorithm.proofs.Chain.{round-room, chain-uncut, chain-moved, chain-begins, chain-ends}
-use Rattle.algorithm.proofs.Stage.{stage-due, stage-apart, stage-moved, stage-core, stage-falls, stage-passed, stage-quiet, stage-began}
+use Rattle.algorithm.proofs.Stage.{stage-due, stage-hands, stage-moved, stage-core, stage-falls, stage-passed, stage-quiet, stage-began}
 use Rattle.algorithm.proofs.Rising.{cuts-rise}
 use Rattle.algorithm.proofs.Cut.{apart}
 use Rattle.algorithm.proofs.NextRound.{next-round}
@@ -41,6 +41,14 @@ use Rattle.algorithm.proofs.States.{handed-moves, handed-shaped, cut-sh
 pub data Steps (I : Instance) (s : State) : Type 0 where
   ended : step I s ≡ done s → ((i j : ℕ) → i < I .n → j < I .n → priceUpToOne (I .m) (owner I s) (price I s) i ≤ priceSum (I .m) (owner I s) (price I s) j) → Steps I s
   went : (t : State) → step I s ≡ busy t → Reached I t → stepNumber I t < stepNumber I s → Steps I s
+
+-- What holds of the action that a state calls for.
+Known : Instance → State → Action → Type 0
+Known I s (hand c w u) = Hands I (owner I s) c w u
+Known I s pass = Unit {0}
+Known I s cut = CleanCut I s
+Known I s stop = Unit {0}
+Known I s lack = ⊥
 
 leb-more : (i : ℕ) {k l : ℕ} → k ≤ l → leb i k ≡ true → leb i l ≡ true
 leb-more i {k} {l} h e = le-leb i l (omega (arith, leb-true i k e))
@@ -134,10 +142,8 @@ module _ {I : Instance} {s : State} (R : Reached I s) where
         let p = price I s in
         let d = due-found I x p (S .some) h in
         let k = chore2b I x p in
-        let w = giver2b I x p in
         let u = receiver2b I x p in
-        let v : Moves (I .m) x (owner I (handed I s k u)) k w u =
-        handed-moves (R .shaped) k w u (d .chore) (d .owned) (λ q. clash (d .near) (ap (λ i. within I x p (ring2b I x p - 1) i) (sym q) ∙ d .notNearer)) in
+        let v = handed-moves (R .shaped) (due-hands d) in
         let less = chain-moved S (R .core) d v C in
         went (handed I s k u) (stepped I s (hands2b I s e h (d .receiver) (d .chore)))
         (handed-reached k u (handed-shaped (R .shaped) k u (d .chore)) (core-moved S (R .core) v (d .receiver) (d .wants)) (entitled-moved (R .entitled) v (chain-uncut S (R .core) d C)) (less .0)
@@ -161,13 +167,11 @@ module _ {I : Instance} {s : State} (R : Reached I s) where
         let p = price I s in
         let g = s .stage in
         let d = stage-due I x p (group I s) (isEntitled I s) g some (R .entitled) h in
-        let i = giver2a I x p (group I s) (isEntitled I s) g in
         let j = receiver2a I x p (group I s) (isEntitled I s) g in
         let c = chore2a I x p (group I s) (isEntitled I s) g in
-        let v : Moves (I .m) x (owner I (handed I s c j)) c i j =
-        handed-moves (R .shaped) c i j (d .chore) (d .owned) (stage-apart d) in
+        let v = handed-moves (R .shaped) (stage-hands d) in
         let less : chainTop I * held I (owner I (handed I s c j)) (λ a. leb (group I s a) g) + 1 ≤ R .room =
-        omega (arith, fits, mul-le-mul-left (chainTop I) (stage-falls d v), stage-apart d, d .giver, d .receiver) in
+        omega (arith, fits, mul-le-mul-left (chainTop I) (stage-falls d v), stage-hands d .apart, d .giver, d .receiver) in
         let left : 0 < R .room = omega arith in
         went (handed I s c j) (stepped I s (hands2a I s some h (d .chore)))
         (handed-reached c j (handed-shaped (R .shaped) c j (d .chore)) (stage-core S (R .core) T d v) (entitled-moved (R .entitled) v (d .uncut)) left
@@ -218,27 +222,31 @@ module _ {I : Instance} {s : State} (R : Reached I s) where
           (λ a. cut2b S C h (any-elim (I .n) (above I (owner I s) (price I s)) a) e since)
           (stop2b S e h)
 
-  -- each cut is a clean one: only the end of 2b with somebody above calls for it
-  pub clean-cut : Sound I → action I s ≡ cut → CleanCut I s
-  clean-cut S q = go (R .place)
+  known : Sound I → Known I s (action I s)
+  unfolding Known
+  known S = go (R .place)
     where
-      not-hand : {c w u : ℕ} → action I s ≡ hand c w u → CleanCut I s
-      not-hand r = let z : _≡_ {A = ℕ} 0 1 = cc in absurd (omega arith)
+      via : {a : Action} → action I s ≡ a → Known I s a → Known I s (action I s)
+      via e = subst (Known I s) (sym e)
 
-      not-pass : action I s ≡ pass → CleanCut I s
-      not-pass r = let z : _≡_ {A = ℕ} 0 1 = cc in absurd (omega arith)
-
-      not-stop : action I s ≡ stop → CleanCut I s
-      not-stop r = let z : _≡_ {A = ℕ} 0 1 = cc in absurd (omega arith)
-
-      go : Place I s (R .top) (R .room) → CleanCut I s
+      go : Place I s (R .top) (R .room) → Known I s (action I s)
       go (in2a some low T fits) =
           by-test (due2a I (owner I s) (price I s) (group I s) (isEntitled I s) (s .stage))
-          (λ h. not-hand (hands2a I s some h (stage-due I (owner I s) (price I s) (group I s) (isEntitled I s) (s .stage) some (R .entitled) h .chore)))
-          (λ h. not-pass (passes2a I s some h))
+          (λ h. let d = stage-due I (owner I s) (price I s) (group I s) (isEntitled I s) (s .stage) some (R .entitled) h in via (hands2a I s some h (d .chore)) (stage-hands d))
+          (λ h. via (passes2a I s some h) tt)
       go (in2b e since C) =
           by-test (due2b I (owner I s) (price I s))
-          (λ h. let d = due-found I (owner I s) (price I s) (S .some) h in not-hand (hands2b I s e h (d .receiver) (d .chore))) λ h.
+          (λ h. let d = due-found I (owner I s) (price I s) (S .some) h in via (hands2b I s e h (d .receiver) (d .chore)) (due-hands d)) λ h.
           by-test (anyBelow (I .n) (above I (owner I s) (price I s)))
-          (λ a. clean2b S C h (any-elim (I .n) (above I (owner I s) (price I s)) a) since)
-          (λ a. not-stop (stops2b I s e h a))
+          (λ a. via (cuts2b I s e h a) (clean2b S C h (any-elim (I .n) (above I (owner I s) (price I s)) a) since))
+          (λ a. via (stops2b I s e h a) tt)
+
+  -- what is handed over has its owner and goes to another agent
+  pub hand-known : Sound I → {c w u : ℕ} → action I s ≡ hand c w u → Hands I (owner I s) c w u
+  unfolding Known
+  hand-known S q = subst (Known I s) q (known S)
+
+  -- each cut is a clean one
+  pub clean-cut : Sound I → action I s ≡ cut → CleanCut I s
+  unfolding Known
+  clean-cut S q = subst (Known I s) q (known S)

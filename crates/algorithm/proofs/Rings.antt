@@ -19,6 +19,7 @@ use Rattle.model.specs.Fairness.{owns}
 use Rattle.model.specs.Prices.{best, priceSum, priceUpToOne}
 use Rattle.model.specs.Step2b.{leastSum, above, supplies, ofLeastSum, within, reachable, atDistance, ring2b, due2b, giver2b, receiver2b, chore2b}
 use Rattle.algorithm.specs.Due.{Due}
+use Rattle.algorithm.specs.Hands.{Hands}
 use Rattle.algorithm.proofs.UpToOne.{up-le, give-leaves, take-sum, other-sum}
 
 -- a chore of agent i that is best for agent j
@@ -249,6 +250,11 @@ module _ (I : Instance) (x p : ℕ → ℕ) (some : 0 < I .n) where
   unfolding reachable within
   reachable-closed i j c hi hj hc o b r =
       reach-link (I .n) (ofLeastSum I x p) (supplies I x p) i j hi hj r (supplies-intro I x p i j c hc o b)
+
+-- giver and receiver are not at one distance
+pub due-hands : {I : Instance} {x p : ℕ → ℕ} {t w u k : ℕ} → Due I x p t w u k → Hands I x k w u
+due-hands {I} {x} {p} {t} d =
+    record { chore = d .chore; giver = d .giver; receiver = d .receiver; owns = d .owned; apart = λ e. clash (d .near) (ap (within I x p t) (sym e) ∙ d .notNearer) }
 
 -- the giver's distance is below n
 pub ring-below : {I : Instance} {x p : ℕ → ℕ} {t w u k : ℕ} → Due I x p t w u k → suc t < I .n

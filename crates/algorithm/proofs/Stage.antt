@@ -25,6 +25,7 @@ use Rattle.algorithm.specs.Core.{Core}
 use Rattle.algorithm.specs.Phases.{cutPrice, Entitled, Stage, Began, Quiet}
 use Rattle.algorithm.specs.Chain.{held}
 use Rattle.algorithm.specs.Stages.{DueA}
+use Rattle.algorithm.specs.Hands.{Hands}
 use Rattle.algorithm.proofs.UpToOne.{up-top, up-same, up-others, give-sum, take-sum, take-top, other-sum}
 use Rattle.algorithm.proofs.Best.{uncut-best, one-price, none-dearer, core-moved}
 use Rattle.algorithm.proofs.Rings.{least-low}
@@ -116,8 +117,10 @@ module _ (I : Instance) (x p group : ℕ → ℕ) (cut : ℕ → Bool) (g : ℕ)
         uncut = c .1;
       }
 
-pub stage-apart : {I : Instance} {x p group : ℕ → ℕ} {cut : ℕ → Bool} {g i j c : ℕ} → DueA I x p group cut g i j c → i ≡ j → ⊥
-stage-apart {group} D e = omega (arith, ap group e)
+-- giver and receiver are not in one group
+pub stage-hands : {I : Instance} {x p group : ℕ → ℕ} {cut : ℕ → Bool} {g i j c : ℕ} → DueA I x p group cut g i j c → Hands I x c i j
+stage-hands {group} D =
+    record { chore = D .chore; giver = D .giver; receiver = D .receiver; owns = D .owned; apart = λ e. omega (arith, ap group e) }
 
 -- a due move of chore c from i to j
 module _ {I : Instance} {x p group : ℕ → ℕ} {cut : ℕ → Bool} (S : Sound I) (K : Core I x p group cut) {top g i j c : ℕ} (T : Stage I p group cut x top g) (D : DueA I x p group cut g i j c) {y : ℕ → ℕ} (v : Moves (I .m) x y c i j) where

@@ -15,12 +15,13 @@ use Rattle.model.specs.Algorithm.{State, owner, price, group, isEntitled, hande
 use Rattle.welfare.proofs.Moves.{set-moves}
 use Rattle.algorithm.specs.Reached.{Shaped}
 use Rattle.algorithm.specs.Cuts.{Cuts}
+use Rattle.algorithm.specs.Hands.{Hands}
 
 module _ {I : Instance} {s : State} (L : Shaped I s) where
   -- chore k goes from w to u
-  pub handed-moves : (k w u : ℕ) → k < I .m → owner I s k ≡ w → (w ≡ u → ⊥) → Moves (I .m) (owner I s) (owner I (handed I s k u)) k w u
+  pub handed-moves : {k w u : ℕ} → Hands I (owner I s) k w u → Moves (I .m) (owner I s) (owner I (handed I s k u)) k w u
   unfolding handed
-  handed-moves k w u h o ne = set-moves (s .owners) k u (omega (arith, L .owners)) h o ne
+  handed-moves {k} {u = u} h = set-moves (s .owners) k u (omega (arith, L .owners)) (h .chore) (h .owns) (h .apart)
 
   pub handed-shaped : (k u : ℕ) → k < I .m → Shaped I (handed I s k u)
   unfolding handed

@@ -1,5 +1,6 @@
 pub mod Kinds
 pub mod Core
+pub mod Hands
 pub mod Due
 pub mod Phases
 pub mod Chain
@@ -7,4 +8,5 @@ pub mod Stages
 pub mod Cuts
 pub mod Reached
 pub mod Opened
+pub mod RunMoves
 pub mod Theorem

@@ -17,7 +17,7 @@ use Rattle.sheet.proofs.OrElse.{or-else-zero}
 use Rattle.sheet.proofs.Refusal.{valid, lent-room}
 use Rattle.algorithm.proofs.Theorem.{demand3-of, few-of}
 use Rattle.steps.specs.Turns.{stateOf}
-use Rattle.allocation.specs.Shared.{Shared}
+use Rattle.allocation.specs.Shared.{Shared, SharedWith}
 use Rattle.allocation.proofs.Running.{ended-shaped}
 
 -- nothing is turned down: the sheet breaks no rule, and what is lent has room
@@ -51,24 +51,29 @@ module _ {s owners prices scratch : List ℕ} where
       }
 
   -- the first m entries are those of the state in which the run ends, the rest are kept
-  pub shared-out : {x p scratch′ : List ℕ} {moves cuts k : ℕ} → allocateRefusal s (length owners) (length prices) (length scratch) ≡ 0 → Shared s x p moves cuts → k ≡ choresOf s → scratch′ ≡ replicate (length scratch) 0 → Allocated s owners prices scratch (x ++ drop (k - 0) owners) (p ++ drop (k - 0) prices) scratch′ (ShareOut.Shared moves cuts)
+  pub shared-out : {x p lent bytes scratch′ : List ℕ} {moves cuts k : ℕ} → allocateRefusal s (length owners) (length prices) (length scratch) ≡ 0 → Shared s x p lent bytes moves cuts → k ≡ choresOf s → scratch′ ≡ replicate (length scratch) 0 → SharedWith s owners prices scratch lent (x ++ drop (k - 0) owners) (p ++ drop (k - 0) prices) scratch′ bytes (ShareOut.Shared moves cuts)
   unfolding asRead
   shared-out {x} {p} {k = k} e R q zeros =
       let fine = is-fine s (length owners) (length prices) (length scratch) e in
       let from : k - 0 ≡ choresOf s = omega arith in
       let shape = ended-shaped (fine .valid) (R .ended .ends) in
       record {
-        notRefused = λ _.
-            record {
-              final = stateOf x p (R .groups) (R .entitled) _ _ (R .ended .stage);
-              demand3 = demand3-of s (fine .unbroken) _ (R .ended .ends);
-              few = few-of s (fine .unbroken) _ (R .ended .ends);
-              answer = refl;
-              ownersWritten = front x _ (shape .owners);
-              ownersKept = back x _ (shape .owners) ∙ ap (λ i. drop i owners) from;
-              pricesWritten = front p _ (shape .prices);
-              pricesKept = back p _ (shape .prices) ∙ ap (λ i. drop i prices) from;
-              zeros = zeros;
-            };
-        turnedDown = λ n. absurd (n e);
+        allocated = record {
+          notRefused = λ _.
+              record {
+                final = stateOf x p (R .groups) (R .entitled) _ _ (R .ended .stage);
+                demand3 = demand3-of s (fine .unbroken) _ (R .ended .ends);
+                few = few-of s (fine .unbroken) _ (R .ended .ends);
+                answer = refl;
+                ownersWritten = front x _ (shape .owners);
+                ownersKept = back x _ (shape .owners) ∙ ap (λ i. drop i owners) from;
+                pricesWritten = front p _ (shape .prices);
+                pricesKept = back p _ (shape .prices) ∙ ap (λ i. drop i prices) from;
+                zeros = zeros;
+              };
+          turnedDown = λ n. absurd (n e);
+        };
+        final = stateOf x p (R .groups) (R .entitled) _ _ (R .ended .stage);
+        ends = R .ended .ends;
+        noted = R .ended .noted;
       }

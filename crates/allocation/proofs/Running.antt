@@ -1,32 +1,41 @@
 -- The loop's invariant: where the run is, that it goes on from there, and that its counters fit.
 -- Assumes nothing.
 use Prim.Native.Nat.{ℕ, suc, _≤_, _<_}
-use mathlib.Core.List.{List}
-use mathlib.Core.Path.{_≡_, refl, ap, _∙_}
+use mathlib.Core.List.{List, [], _++_, append-nil}
+use mathlib.Core.Path.{_≡_, refl, ap, subst, _∙_}
 use native.Mathlib.Omega.{arith}
+use lib.ListN.{length}
 use Rattle.model.specs.Limits.{maxAgents}
 use Rattle.model.specs.Sheet.{agentsOf, choresOf, asRead}
 use Rattle.model.specs.MostMoves.{mostMoves, mostEver}
-use Rattle.model.specs.Algorithm.{State, busy, done, step, next, after, Ends}
+use Rattle.model.specs.Algorithm.{State, Action, hand, busy, done, action, step, next, after, Ends}
+use Rattle.model.specs.Record.{handsOver, nextMoves, movesIn}
 use Rattle.model.proofs.MostMoves.{most-at-4000}
+use Rattle.records.specs.Noted.{moveOf, Numbers, Noted, Holding}
+use Rattle.records.proofs.Holding.{noted-on}
 use Rattle.sheet.specs.Valid.{Valid}
 use Rattle.algorithm.specs.Reached.{stepNumber, Shaped, Reached}
+use Rattle.algorithm.specs.RunMoves.{stateIn}
 use Rattle.algorithm.proofs.Reading.{read-sound}
 use Rattle.algorithm.proofs.Actions.{passing}
-use Rattle.algorithm.proofs.Machine.{fewer-cuts, moves-bound}
+use Rattle.algorithm.proofs.Machine.{fewer-cuts, moves-bound, hand-known}
 use Rattle.algorithm.proofs.Begin.{opening-reached}
 use Rattle.algorithm.proofs.Ending.{reached, step-falls, done-reached}
+use Rattle.algorithm.proofs.RunMoves.{leads}
 use Rattle.steps.specs.declared.Turn.{Turn}
-use Rattle.steps.specs.Turns.{stateOf, named, Turning, Turned}
-use Rattle.allocation.specs.Runs.{Running, Kit}
+use Rattle.steps.specs.Turns.{stateOf, named, actionOf, Turning, Turned}
+use Rattle.allocation.specs.Runs.{Running, Kit, RunEnds}
 use Rattle.steps.proofs.Ready.{reached-ready}
 
 -- the most moves of a share-out, in numbers
 pub most-moves : {s : List ℕ} → Valid s → mostMoves (agentsOf s) (choresOf s) ≤ mostEver
 most-moves {s} v = most-at-4000 (agentsOf s) (choresOf s) (v .agentsFit) (omega (arith, v .choresFit))
 
-module _ {s : List ℕ} (v : Valid s) {owners prices groups entitled : List ℕ} {moves cuts stage : ℕ} (R : Running s owners prices groups entitled moves cuts stage) where
-  pub state-reached : Reached (asRead s) (stateOf owners prices groups entitled moves cuts stage)
+module _ {s : List ℕ} (v : Valid s) {owners prices groups entitled lent bytes : List ℕ} {moves cuts stage : ℕ} (R : Running s owners prices groups entitled lent bytes moves cuts stage) where
+  abbrev st : State
+  st = stateOf owners prices groups entitled moves cuts stage
+
+  pub state-reached : Reached (asRead s) st
   state-reached = reached (read-sound v) (opening-reached (read-sound v)) (R .count) _ (R .comes)
 
   pub turning : {likes : List ℕ} → Kit s likes → Turning s owners prices groups entitled likes cuts stage
@@ -40,25 +49,63 @@ module _ {s : List ℕ} (v : Valid s) {owners prices groups entitled : List ℕ}
   unfolding asRead
   cuts-fit = omega (arith, fewer-cuts state-reached, v .agentsFit)
 
-  pub runs-on : {owners′ prices′ groups′ entitled′ : List ℕ} {moves′ cuts′ stage′ : ℕ} → step (asRead s) (stateOf owners prices groups entitled moves cuts stage) ≡ busy (stateOf owners′ prices′ groups′ entitled′ moves′ cuts′ stage′) → Running s owners′ prices′ groups′ entitled′ moves′ cuts′ stage′
-  unfolding after next
-  runs-on e = record { count = suc (R .count); comes = ap (next (asRead s)) (R .comes) ∙ e }
+  -- what is handed over has numbers that fit a record
+  pub numbers : {c w u : ℕ} → action (asRead s) st ≡ hand c w u → Numbers c w u cuts
+  unfolding asRead
+  numbers e =
+      let h = hand-known state-reached (read-sound v) e in
+      record {
+        ofChore = omega (arith, h .chore, v .choresFit);
+        ofGiver = omega (arith, h .giver, v .agentsFit);
+        ofReceiver = omega (arith, h .receiver, v .agentsFit);
+        ofRound = cuts-fit;
+      }
 
-  pub falls : {t : State} → step (asRead s) (stateOf owners prices groups entitled moves cuts stage) ≡ busy t → stepNumber (asRead s) t < stepNumber (asRead s) (stateOf owners prices groups entitled moves cuts stage)
+  -- the moves so far are as many as the counter says
+  counted : length (movesIn (asRead s) (R .count)) ≡ moves
+  unfolding stateIn
+  counted =
+      subst (λ o. length (movesIn (asRead s) (R .count)) ≡ stateIn o .moves) (R .comes) (leads (read-sound v) (R .count) .count)
+
+  -- one step more: its moves come after those so far
+  moves-next : {a : Action} → action (asRead s) st ≡ a → movesIn (asRead s) (suc (R .count)) ≡ movesIn (asRead s) (R .count) ++ handsOver st a
+  unfolding movesIn nextMoves
+  moves-next e =
+      ap (λ o. movesIn (asRead s) (R .count) ++ nextMoves (asRead s) o) (R .comes)
+      ∙ ap (λ a. movesIn (asRead s) (R .count) ++ handsOver st a) e
+
+  -- a move is noted; what hands nothing over leaves the record alone
+  pub notes : {bytes′ : List ℕ} {c w u : ℕ} → action (asRead s) st ≡ hand c w u → Noted moves (moveOf c w u cuts stage) bytes bytes′ → Holding (movesIn (asRead s) (suc (R .count))) lent bytes′
+  unfolding handsOver
+  notes e N = rw (moves-next e) (noted-on (R .noted) counted N)
+
+  pub notes-none : {a : Action} → action (asRead s) st ≡ a → handsOver st a ≡ [] → Holding (movesIn (asRead s) (suc (R .count))) lent bytes
+  notes-none e q = rw (moves-next e, q, append-nil (movesIn (asRead s) (R .count))) (R .noted)
+
+  pub runs-on : {owners′ prices′ groups′ entitled′ bytes′ : List ℕ} {moves′ cuts′ stage′ : ℕ} → step (asRead s) st ≡ busy (stateOf owners′ prices′ groups′ entitled′ moves′ cuts′ stage′) → Holding (movesIn (asRead s) (suc (R .count))) lent bytes′ → Running s owners′ prices′ groups′ entitled′ lent bytes′ moves′ cuts′ stage′
+  unfolding after next
+  runs-on e H = record { count = suc (R .count); comes = ap (next (asRead s)) (R .comes) ∙ e; noted = H }
+
+  pub falls : {t : State} → step (asRead s) st ≡ busy t → stepNumber (asRead s) t < stepNumber (asRead s) st
   falls e = step-falls (read-sound v) state-reached e
 
-  pub ends-here : {t : State} → step (asRead s) (stateOf owners prices groups entitled moves cuts stage) ≡ done t → Ends (asRead s) t
+  pub ends-here : {owners′ prices′ groups′ entitled′ bytes′ : List ℕ} {moves′ cuts′ stage′ : ℕ} → step (asRead s) st ≡ done (stateOf owners′ prices′ groups′ entitled′ moves′ cuts′ stage′) → Holding (movesIn (asRead s) (suc (R .count))) lent bytes′ → RunEnds s owners′ prices′ groups′ entitled′ lent bytes′ moves′ cuts′
   unfolding after next
-  ends-here e = record { steps = suc (R .count); ends = ap (next (asRead s)) (R .comes) ∙ e }
+  ends-here e H =
+      record { stage = _; ends = record { steps = suc (R .count); ends = ap (next (asRead s)) (R .comes) ∙ e }; noted = H }
 
   -- 2b passes nothing on
-  pub passes-down : {owners′ prices′ groups′ entitled′ : List ℕ} {stage′ : ℕ} → step (asRead s) (stateOf owners prices groups entitled moves cuts stage) ≡ busy (stateOf owners′ prices′ groups′ entitled′ moves cuts stage′) → 0 < stage
-  passes-down e = passing (asRead s) (stateOf owners prices groups entitled moves cuts stage) e refl refl
+  pub passes-down : {owners′ prices′ groups′ entitled′ : List ℕ} {stage′ : ℕ} → step (asRead s) st ≡ busy (stateOf owners′ prices′ groups′ entitled′ moves cuts stage′) → 0 < stage
+  passes-down e = passing (asRead s) st e refl refl
 
 -- one step, by the answer of a turn
 pub stepping : {s owners prices groups entitled owners′ prices′ groups′ entitled′ : List ℕ} {cuts stage : ℕ} {answer r : Turn} (moves : ℕ) → Turned s owners prices groups entitled cuts stage answer owners′ prices′ groups′ entitled′ → answer ≡ r → step (asRead s) (stateOf owners prices groups entitled moves cuts stage) ≡ named r owners′ prices′ groups′ entitled′ moves cuts stage
 stepping {owners′ = owners′} {prices′} {groups′} {entitled′} {cuts} {stage} moves T e =
     T .steps moves ∙ ap (λ r. named r owners′ prices′ groups′ entitled′ moves cuts stage) e
+
+-- and the action
+pub acting : {s owners prices groups entitled owners′ prices′ groups′ entitled′ : List ℕ} {cuts stage : ℕ} {answer r : Turn} (moves : ℕ) → Turned s owners prices groups entitled cuts stage answer owners′ prices′ groups′ entitled′ → answer ≡ r → action (asRead s) (stateOf owners prices groups entitled moves cuts stage) ≡ actionOf r
+acting moves T e = T .acts moves ∙ ap actionOf e
 
 -- the lists in which a run ends have their lengths
 pub ended-shaped : {s : List ℕ} {x : State} → Valid s → Ends (asRead s) x → Shaped (asRead s) x

@@ -9,6 +9,8 @@ use lib.Seq.{length-take-le}
 use Rattle.finite.proofs.Lists.{tab-const, tab-take}
 use Rattle.model.specs.Sheet.{agentsOf, choresOf, asRead}
 use Rattle.model.specs.Algorithm.{opening, after}
+use Rattle.model.specs.Record.{movesIn}
+use Rattle.records.proofs.Holding.{nothing-yet}
 use Rattle.market.specs.Opened.{OpenInto, Opened}
 use Rattle.allocation.specs.Runs.{Running, Kit}
 use Rattle.allocation.specs.Shared.{Sharing, Working}
@@ -39,6 +41,11 @@ module _ {s owners prices groups entitled likes : List ℕ} (S : Sharing s owner
     kit-of = record { valid = S .valid; liking = O .liking }
 
     -- no step has been done yet
-    pub begins : Running s owners′ prices′ groups entitled 0 0 0
-    unfolding after opening asRead
-    begins = record { count = 0; comes = rw (W .noGroups, W .noneEntitled, O .opensOwners, O .opensPrices) }
+    pub begins : (bytes : List ℕ) → Running s owners′ prices′ groups entitled bytes bytes 0 0 0
+    unfolding after movesIn opening asRead
+    begins bytes =
+        record {
+          count = 0;
+          comes = rw (W .noGroups, W .noneEntitled, O .opensOwners, O .opensPrices);
+          noted = nothing-yet bytes;
+        }

@@ -3,7 +3,12 @@ use Prim.Native.Nat.{ℕ}
 use mathlib.Core.List.{List}
 use mathlib.Core.Path.{_≡_}
 use lib.ListN.{length, replicate}
-use Rattle.model.specs.Sheet.{agentsOf, choresOf}
+use Rattle.model.specs.declared.ShareOut.{ShareOut}
+use Rattle.model.specs.Sheet.{agentsOf, choresOf, asRead}
+use Rattle.model.specs.Algorithm.{State, Ends}
+use Rattle.model.specs.Record.{movesIn}
+use Rattle.model.specs.Promises.{Allocated}
+use Rattle.records.specs.Noted.{Holding}
 use Rattle.sheet.specs.Valid.{Valid}
 use Rattle.allocation.specs.Runs.{RunEnds}
 
@@ -18,8 +23,15 @@ pub record Working (s groups entitled likes : List ℕ) : Type 0 where
   pub noneEntitled : entitled ≡ replicate (choresOf s) 0
   pub likesSized : length likes ≡ choresOf s
 
--- the run has ended with these owners, prices and counters; its groups and entitled marks stay inside
-pub record Shared (s owners prices : List ℕ) (moves cuts : ℕ) : Type 0 where
+-- the run has ended with these owners, prices and counters, and its moves are in `bytes`; its groups and entitled marks stay inside
+pub record Shared (s owners prices lent bytes : List ℕ) (moves cuts : ℕ) : Type 0 where
   pub groups : List ℕ
   pub entitled : List ℕ
-  pub ended : RunEnds s owners prices groups entitled moves cuts
+  pub ended : RunEnds s owners prices groups entitled lent bytes moves cuts
+
+-- What a share-out leaves that is not turned down: all that `allocate` promises, and the run's moves in `bytes`.
+pub record SharedWith (s owners prices scratch lent owners′ prices′ scratch′ bytes : List ℕ) (r : ShareOut) : Type 0 where
+  pub allocated : Allocated s owners prices scratch owners′ prices′ scratch′ r
+  pub final : State
+  pub ends : Ends (asRead s) final
+  pub noted : Holding (movesIn (asRead s) (ends .steps)) lent bytes

@@ -4,7 +4,7 @@ ghost use lib.ListN.{length, replicate};
 ghost use Rattle.model.specs.Limits.{maxAgents, maxChores};
 ghost use Rattle.model.specs.Refusals.{allocateRefusal};
 ghost use Rattle.model.specs.Promises.{Allocated};
-ghost use Rattle.allocation.specs.Shared.{Sharing, Working, Shared};
+ghost use Rattle.allocation.specs.Shared.{Sharing, Working, Shared, SharedWith};
 
 mod run;
 
@@ -40,20 +40,21 @@ fn share_with(
     groups: &mut [u8],
     entitled: &mut [u8],
     likes: &mut [u32],
+    record: &mut [u8],
 ) -> Counts
     requires { ⌜ Sharing (now sheet) (now owners) (now prices) × Working (now sheet) (now groups) (now entitled) (now likes) ⌝ }
-    ensures { λ r. ⌜ Shared (now (sheet .entry)) (now (owners .exit)) (now (prices .exit)) (r .moves) (r .cuts) ⌝ }
+    ensures { λ r. ⌜ Shared (now (sheet .entry)) (now (owners .exit)) (now (prices .exit)) (now («record» .entry)) (now («record» .exit)) (r .moves) (r .cuts) ⌝ }
 {
     let n = sheet::agents(sheet);
     let m = sheet::chores(sheet);
     open(sheet, n, m, owners, prices, likes);
-    run(sheet, owners, prices, groups, entitled, likes)
+    run(sheet, owners, prices, groups, entitled, likes, record)
 }
 
 // The share-out of a sheet that breaks no rule, into lists of one entry for each chore.
-fn share(sheet: &[u8], owners: &mut [u8], prices: &mut [u32]) -> Counts
+pub fn share(sheet: &[u8], owners: &mut [u8], prices: &mut [u32], record: &mut [u8]) -> Counts
     requires { ⌜ Sharing (now sheet) (now owners) (now prices) ⌝ }
-    ensures { λ r. ⌜ Shared (now (sheet .entry)) (now (owners .exit)) (now (prices .exit)) (r .moves) (r .cuts) ⌝ }
+    ensures { λ r. ⌜ Shared (now (sheet .entry)) (now (owners .exit)) (now (prices .exit)) (now («record» .entry)) (now («record» .exit)) (r .moves) (r .cuts) ⌝ }
 {
     let n = sheet::agents(sheet);
     let m = sheet::chores(sheet);
@@ -67,11 +68,12 @@ fn share(sheet: &[u8], owners: &mut [u8], prices: &mut [u32]) -> Counts
         &mut groups[0..n],
         &mut entitled[0..m],
         &mut likes[0..m],
+        record,
     )
 }
 
 // The number that a share-out is turned down with, 0 where it is not.
-fn allocate_refusal(sheet: &[u8], owners: usize, prices: usize, scratch: usize) -> u8
+pub fn allocate_refusal(sheet: &[u8], owners: usize, prices: usize, scratch: usize) -> u8
     ensures { λ r. ⌜ r ≡ allocateRefusal (now (sheet .entry)) owners prices scratch ⌝ }
 {
     let of_sheet = sheet::sheet_refusal(sheet);
@@ -95,6 +97,25 @@ pub fn clear(xs: &mut [u8])
     }
 }
 
+// The share-out of what is not turned down, with or without a record of its moves.
+pub fn share_out(
+    sheet: &[u8],
+    owners: &mut [u8],
+    prices: &mut [u32],
+    scratch: &mut [u8],
+    record: &mut [u8],
+) -> model::ShareOut
+    requires { ⌜ allocateRefusal (now sheet) (length (now owners)) (length (now prices)) (length (now scratch)) ≡ 0 ⌝ }
+    ensures { λ r. ⌜ SharedWith (now (sheet .entry)) (now (owners .entry)) (now (prices .entry)) (now (scratch .entry)) (now («record» .entry)) (now (owners .exit)) (now (prices .exit)) (now (scratch .exit)) (now («record» .exit)) r ⌝ }
+{
+    let m = sheet::chores(sheet);
+    let counts = share(sheet, &mut owners[0..m], &mut prices[0..m], record);
+    clear(scratch);
+    let moves = counts.moves;
+    let cuts = counts.cuts;
+    model::ShareOut::Shared { moves, cuts }
+}
+
 pub fn allocate(
     sheet: &[u8],
     owners: &mut [u8],
@@ -107,10 +128,6 @@ pub fn allocate(
     if refusal != 0 {
         return model::ShareOut::Refused(refusal);
     }
-    let m = sheet::chores(sheet);
-    let counts = share(sheet, &mut owners[0..m], &mut prices[0..m]);
-    clear(scratch);
-    let moves = counts.moves;
-    let cuts = counts.cuts;
-    model::ShareOut::Shared { moves, cuts }
+    let mut unrecorded = [0u8; 0];
+    share_out(sheet, owners, prices, scratch, &mut unrecorded)
 }

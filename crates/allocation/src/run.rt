@@ -1,6 +1,7 @@
 // The run of Algorithm 1, one step a turn.
 ghost use Rattle.steps.specs.Turns.{Turning, Turned};
 ghost use Rattle.allocation.specs.Runs.{Running, Kit, RunEnds};
+use records::note;
 use steps::Turn;
 use steps::step_2a;
 use steps::step_2b;
@@ -32,7 +33,7 @@ pub struct Counts {
     pub cuts: u8,
 }
 
-// From the opening to the stop in 2b. A cut starts 2a at the group before the new one.
+// From the opening to the stop in 2b. A cut starts 2a at the group before the new one. Moves that the record has no room for are counted only.
 pub fn run(
     sheet: &[u8],
     owners: &mut [u8],
@@ -40,9 +41,10 @@ pub fn run(
     groups: &mut [u8],
     entitled: &mut [u8],
     likes: &[u32],
+    record: &mut [u8],
 ) -> Counts
-    requires { ⌜ Kit (now sheet) (now likes) × Running (now sheet) (now owners) (now prices) (now groups) (now entitled) 0 0 0 ⌝ }
-    ensures { λ r. ⌜ RunEnds (now (sheet .entry)) (now (owners .exit)) (now (prices .exit)) (now (groups .exit)) (now (entitled .exit)) (r .moves) (r .cuts) ⌝ }
+    requires { ⌜ Kit (now sheet) (now likes) × Running (now sheet) (now owners) (now prices) (now groups) (now entitled) (now «record») (now «record») 0 0 0 ⌝ }
+    ensures { λ r. ⌜ RunEnds (now (sheet .entry)) (now (owners .exit)) (now (prices .exit)) (now (groups .exit)) (now (entitled .exit)) (now («record» .entry)) (now («record» .exit)) (r .moves) (r .cuts) ⌝ }
 {
     let mut moves = 0u64;
     let mut cuts = 0u8;
@@ -50,7 +52,12 @@ pub fn run(
     loop {
         let turn = take_turn(sheet, owners, prices, groups, entitled, likes, cuts, stage);
         match turn {
-            Turn::Moved { .. } => {
+            Turn::Moved {
+                chore,
+                giver,
+                receiver,
+            } => {
+                note(record, moves, chore, giver, receiver, cuts, stage);
                 moves += 1;
             }
             Turn::Passed => {

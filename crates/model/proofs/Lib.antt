@@ -1,4 +1,5 @@
 pub mod Unique
+pub mod Record
 pub mod Allocations
 pub mod Cases
 pub mod Starred

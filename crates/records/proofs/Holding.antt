@@ -2,7 +2,7 @@
 -- Assumes nothing.
 use Prim.Native.Nat.{ℕ, _+_, _*_, _≤_}
 use mathlib.Core.List.{List, [], _∷_, _++_}
-use mathlib.Core.Path.{_≡_, refl, sym, ap, _∙_}
+use mathlib.Core.Path.{_≡_, refl, sym, ap, subst, _∙_}
 use native.Mathlib.Omega.{arith}
 use lib.ListN.{length, take, drop, length-append}
 use lib.Seq.{sets-eq, length-sets, take-at, drop-at, drop-drop}
@@ -43,5 +43,8 @@ module _ {moves : List Move} {bytes bytes′ bytes″ : List ℕ} (H : Holding m
       ∙ sets-eq (moveBytes t) bytes′ at (omega (arith, move-length t))
       ∙ rw (front, back, record-append moves (t ∷ []), record-one t)
 
-  pub noted-on : Holding (moves ++ (t ∷ [])) bytes bytes″
-  noted-on = record { sized = noted-sized; first = λ h. rw one-more (noted-first (rw one-more at h)) }
+  noted-more : Holding (moves ++ (t ∷ [])) bytes bytes″
+  noted-more = record { sized = noted-sized; first = λ h. rw one-more (noted-first (rw one-more at h)) }
+
+pub noted-on : {moves : List Move} {bytes bytes′ bytes″ : List ℕ} {made : ℕ} {t : Move} → Holding moves bytes bytes′ → length moves ≡ made → Noted made t bytes′ bytes″ → Holding (moves ++ (t ∷ [])) bytes bytes″
+noted-on {bytes′ = bytes′} {bytes″} {t = t} H e N = noted-more H (subst (λ k. Noted k t bytes′ bytes″) (sym e) N)

@@ -48,11 +48,11 @@ part-likes-end c = search needs
 
 share-with-requires : tie.Need-share-with-requires
 share-with-requires c κs =
-    let likes = c .before .before .before .before .before in
+    let likes = c .before .before .before .before .before .before in
     let entitled = likes .before in
     let groups = entitled .before in
     let chores = groups .before in
-    let pre = chores .before .before .before .before .before .pre in
+    let pre = chores .before .before .before .before .before .before .pre in
     let m-is = chores .chores .ensures .is in (
       pre,
       record {
@@ -67,6 +67,9 @@ same-length c = search needs
 
 same-length-2 : tie.Need-same-length-2
 same-length-2 c = search needs
+
+same-length-3 : tie.Need-same-length-3
+same-length-3 c = search needs
 
 returns : tie.Need-returns
 returns c = search needs
@@ -92,4 +95,5 @@ share-spec =
     share-with-requires
     same-length
     same-length-2
+    same-length-3
     returns)

@@ -6,7 +6,7 @@ use Rattle.allocation.proofs.share_with.Tie as tie
 
 -- from the second call back to the start
 abbrev start : tie.After-chores → tie.Start
-start c = c .before .before .before .before .before .before .before .before
+start c = c .before .before .before .before .before .before .before .before .before
 
 agents-requires : tie.Need-agents-requires
 agents-requires c κs = search needs
@@ -22,9 +22,10 @@ open-requires c κs =
 
 run-requires : tie.Need-run-requires
 run-requires c κs =
-    let opened = c .before .before .before .before .before .before .before .before .before .before .before in
-    let pre = start (opened .before .before .before .before) .pre in
-    (kit-of (pre .0) (pre .1) (opened .«open» .ensures), begins (pre .0) (pre .1) (opened .«open» .ensures))
+    let opened = c .before .before .before .before .before .before .before .before .before .before .before .before in
+    let begun = start (opened .before .before .before .before) in
+    let pre = begun .pre in
+    (kit-of (pre .0) (pre .1) (opened .«open» .ensures), begins (pre .0) (pre .1) (opened .«open» .ensures) (begun .args .«record» .now))
 
 same-length : tie.Need-same-length
 same-length c = search needs
@@ -41,9 +42,12 @@ same-length-4 c = search needs
 same-length-5 : tie.Need-same-length-5
 same-length-5 c = search needs
 
+same-length-6 : tie.Need-same-length-6
+same-length-6 c = search needs
+
 returns : tie.Need-returns
 returns c =
-    let ended = c .before .before .before .before .before .before .before .before in
+    let ended = c .before .before .before .before .before .before .before .before .before .before in
     record { groups = _; entitled = _; ended = ended .run .ensures }
 
 pub share-with-spec : {M : Type 1} → statement M
@@ -59,4 +63,5 @@ share-with-spec =
     same-length-3
     same-length-4
     same-length-5
+    same-length-6
     returns)

@@ -1,83 +1,101 @@
 -- `allocation::run::run` meets its contract. Before each turn: the run has come to the state that the lists and counters hold.
+use mathlib.Core.Path.{refl}
 use native.Mathlib.Omega.{arith}
 use borrow.Author.Needs.{needs}
 use Rattle.model.specs.Sheet.{asRead}
+use Rattle.model.specs.Algorithm.{hand, action}
+use Rattle.model.specs.Record.{handsOver}
 use Rattle.algorithm.specs.Reached.{stepNumber, Shaped}
 use Rattle.steps.specs.Turns.{stateOf}
 use Rattle.allocation.specs.Runs.{Running, Kit}
-use Rattle.allocation.proofs.Running.{state-reached, turning, moves-fit, cuts-fit, runs-on, stepping, passes-down, falls, ends-here}
+use Rattle.allocation.proofs.Running.{state-reached, turning, moves-fit, cuts-fit, numbers, notes, notes-none, runs-on, stepping, acting, passes-down, falls, ends-here}
 use Rattle.allocation.proofs.run.run.Statement.{statement}
 use Rattle.allocation.proofs.run.run.Tie as tie
 
 abbrev Inv-loop : tie.InvT-loop
-Inv-loop sheet owners₀ prices₀ groups₀ entitled₀ likes moves₀ cuts₀ stage₀ owners prices groups entitled moves cuts stage =
-    Kit sheet likes × Running sheet owners prices groups entitled moves cuts stage
+Inv-loop sheet owners₀ prices₀ groups₀ entitled₀ likes record₀ moves₀ cuts₀ stage₀ owners prices groups entitled «record» moves cuts stage =
+    Kit sheet likes × Running sheet owners prices groups entitled record₀ «record» moves cuts stage
 
 abbrev μ-loop : tie.MeasureT-loop
-μ-loop sheet owners₀ prices₀ groups₀ entitled₀ likes moves₀ cuts₀ stage₀ owners prices groups entitled moves cuts stage =
+μ-loop sheet owners₀ prices₀ groups₀ entitled₀ likes record₀ moves₀ cuts₀ stage₀ owners prices groups entitled «record» moves cuts stage =
     stepNumber (asRead sheet) (stateOf owners prices groups entitled moves cuts stage)
 
 -- back from the match on a turn to the turn, from there to the loop, and to the start
-abbrev turnAt : tie.After-slice-known8 Inv-loop μ-loop → tie.After-take-turn Inv-loop μ-loop
+abbrev turnAt : tie.After-slice-known9 Inv-loop μ-loop → tie.After-take-turn Inv-loop μ-loop
 turnAt c = c .before .before .before .before .before .before .before .before
 
 abbrev loopAt : tie.After-take-turn Inv-loop μ-loop → tie.At-loop Inv-loop μ-loop
 loopAt c = c .before .before .before .before .before
 
 abbrev start : tie.At-loop Inv-loop μ-loop → tie.Start Inv-loop μ-loop
-start c = c .before .before .before .before .before .before .before
+start c = c .before .before .before .before .before .before .before .before
+
+-- a move is told, and noted
+abbrev toldAt : tie.After-slice-known10 Inv-loop μ-loop → tie.After-turn Inv-loop μ-loop
+toldAt c = c .before .before .before .before .before
 
 loop-holds : tie.Need-loop-holds Inv-loop μ-loop
-loop-holds c = c .before .before .before .before .before .before .pre
+loop-holds c = c .before .before .before .before .before .before .before .pre
 
 take-turn-requires : tie.Need-take-turn-requires Inv-loop μ-loop
 take-turn-requires c κs =
     let inv = c .before .before .before .before .loop .inv in
     turning (inv .0 .valid) (inv .1) (inv .0)
 
-enum-told : tie.Need-enum-told Inv-loop μ-loop
-enum-told c = search needs
+enum-known-turn : tie.Need-enum-known-turn Inv-loop μ-loop
+enum-known-turn c = search needs
+
+note-requires : tie.Need-note-requires Inv-loop μ-loop
+note-requires c κs =
+    let told = c .before .before in
+    let turn = turnAt (told .before .before) in
+    let loop = loopAt turn .loop in
+    numbers (loop .inv .0 .valid) (loop .inv .1) (acting (loop .moves) (turn .take-turn .ensures) (told .turn .given .1))
 
 add-moves : tie.Need-add-moves Inv-loop μ-loop
 add-moves c =
-    let inv = loopAt (turnAt (c .before .before)) .loop .inv in
+    let inv = loopAt (turnAt (toldAt c .before .before)) .loop .inv in
     record { fits = omega (arith, moves-fit (inv .0 .valid) (inv .1)) }
 
 loop-less : tie.Need-loop-less Inv-loop μ-loop
 loop-less c =
-    let turn = turnAt (c .before .before) in
+    let told = toldAt c in
+    let turn = turnAt (told .before .before) in
     let loop = loopAt turn .loop in
-    falls (loop .inv .0 .valid) (loop .inv .1) (stepping (loop .moves) (turn .take-turn .ensures) (c .enum-told .given .1))
+    falls (loop .inv .0 .valid) (loop .inv .1) (stepping (loop .moves) (turn .take-turn .ensures) (told .turn .given .1))
 
 loop-again : tie.Need-loop-again Inv-loop μ-loop
 loop-again c =
-    let turn = turnAt (c .before .before) in
+    let told = toldAt c in
+    let turn = turnAt (told .before .before) in
     let loop = loopAt turn .loop in
-    (loop .inv .0, runs-on (loop .inv .0 .valid) (loop .inv .1) (stepping (loop .moves) (turn .take-turn .ensures) (c .enum-told .given .1)))
+    let noted = notes (loop .inv .0 .valid) (loop .inv .1) (acting (loop .moves) (turn .take-turn .ensures) (told .turn .given .1)) (c .before .before .note .ensures) in
+    (loop .inv .0, runs-on (loop .inv .0 .valid) (loop .inv .1) (stepping (loop .moves) (turn .take-turn .ensures) (told .turn .given .1)) noted)
 
-enum-told-2 : tie.Need-enum-told-2 Inv-loop μ-loop
-enum-told-2 c = search needs
+enum-told : tie.Need-enum-told Inv-loop μ-loop
+enum-told c = search needs
 
 sub-stage : tie.Need-sub-stage Inv-loop μ-loop
 sub-stage c =
     let turn = turnAt (c .before .before) in
     let loop = loopAt turn .loop in
-    passes-down (loop .inv .0 .valid) (loop .inv .1) (stepping (loop .moves) (turn .take-turn .ensures) (c .enum-told2 .given .1))
+    passes-down (loop .inv .0 .valid) (loop .inv .1) (stepping (loop .moves) (turn .take-turn .ensures) (c .enum-told .given .1))
 
 loop-less-2 : tie.Need-loop-less-2 Inv-loop μ-loop
 loop-less-2 c =
     let turn = turnAt (c .before .before) in
     let loop = loopAt turn .loop in
-    falls (loop .inv .0 .valid) (loop .inv .1) (stepping (loop .moves) (turn .take-turn .ensures) (c .enum-told2 .given .1))
+    falls (loop .inv .0 .valid) (loop .inv .1) (stepping (loop .moves) (turn .take-turn .ensures) (c .enum-told .given .1))
 
 loop-again-2 : tie.Need-loop-again-2 Inv-loop μ-loop
+unfolding handsOver
 loop-again-2 c =
     let turn = turnAt (c .before .before) in
     let loop = loopAt turn .loop in
-    (loop .inv .0, runs-on (loop .inv .0 .valid) (loop .inv .1) (stepping (loop .moves) (turn .take-turn .ensures) (c .enum-told2 .given .1)))
+    (loop .inv .0, runs-on (loop .inv .0 .valid) (loop .inv .1) (stepping (loop .moves) (turn .take-turn .ensures) (c .enum-told .given .1)) (notes-none (loop .inv .0 .valid) (loop .inv .1) (acting (loop .moves) (turn .take-turn .ensures) (c .enum-told .given .1)) refl))
 
-enum-told-3 : tie.Need-enum-told-3 Inv-loop μ-loop
-enum-told-3 c = search needs
+enum-told-2 : tie.Need-enum-told-2 Inv-loop μ-loop
+enum-told-2 c = search needs
 
 add-cuts : tie.Need-add-cuts Inv-loop μ-loop
 add-cuts c =
@@ -88,16 +106,17 @@ loop-less-3 : tie.Need-loop-less-3 Inv-loop μ-loop
 loop-less-3 c =
     let turn = turnAt (c .before .before) in
     let loop = loopAt turn .loop in
-    falls (loop .inv .0 .valid) (loop .inv .1) (stepping (loop .moves) (turn .take-turn .ensures) (c .enum-told3 .given .1))
+    falls (loop .inv .0 .valid) (loop .inv .1) (stepping (loop .moves) (turn .take-turn .ensures) (c .enum-told2 .given .1))
 
 loop-again-3 : tie.Need-loop-again-3 Inv-loop μ-loop
+unfolding handsOver
 loop-again-3 c =
     let turn = turnAt (c .before .before) in
     let loop = loopAt turn .loop in
-    (loop .inv .0, runs-on (loop .inv .0 .valid) (loop .inv .1) (stepping (loop .moves) (turn .take-turn .ensures) (c .enum-told3 .given .1)))
+    (loop .inv .0, runs-on (loop .inv .0 .valid) (loop .inv .1) (stepping (loop .moves) (turn .take-turn .ensures) (c .enum-told2 .given .1)) (notes-none (loop .inv .0 .valid) (loop .inv .1) (acting (loop .moves) (turn .take-turn .ensures) (c .enum-told2 .given .1)) refl))
 
-enum-told-4 : tie.Need-enum-told-4 Inv-loop μ-loop
-enum-told-4 c = search needs
+enum-told-3 : tie.Need-enum-told-3 Inv-loop μ-loop
+enum-told-3 c = search needs
 
 -- the lists have their lengths from the first state on
 shaped : (c : tie.At-loop Inv-loop μ-loop) → let loop = c .loop in Shaped (asRead (start c .args .sheet .now)) (stateOf (loop .owners) (loop .prices) (loop .groups) (loop .entitled) (loop .moves) (loop .cuts) (loop .stage))
@@ -118,11 +137,15 @@ same-length-3 c = let loop = loopAt (turnAt (c .before .before)) in search (need
 same-length-4 : tie.Need-same-length-4 Inv-loop μ-loop
 same-length-4 c = let loop = loopAt (turnAt (c .before .before)) in search (needs, shaped loop .entitled, shaped-first loop .entitled)
 
+same-length-5 : tie.Need-same-length-5 Inv-loop μ-loop
+same-length-5 c = let loop = loopAt (turnAt (c .before .before)) .loop in search (needs, loop .inv .1 .noted .sized)
+
 returns : tie.Need-returns Inv-loop μ-loop
+unfolding handsOver
 returns c =
     let turn = turnAt (c .before .before) in
     let loop = loopAt turn .loop in
-    record { stage = _; ends = ends-here (loop .inv .0 .valid) (loop .inv .1) (stepping (loop .moves) (turn .take-turn .ensures) (c .enum-told4 .given .1)) }
+    ends-here (loop .inv .0 .valid) (loop .inv .1) (stepping (loop .moves) (turn .take-turn .ensures) (c .enum-told3 .given .1)) (notes-none (loop .inv .0 .valid) (loop .inv .1) (acting (loop .moves) (turn .take-turn .ensures) (c .enum-told3 .given .1)) refl)
 
 pub run-spec : {M : Type 1} → statement M
 run-spec =
@@ -132,21 +155,23 @@ run-spec =
     μ-loop
     loop-holds
     take-turn-requires
-    enum-told
+    enum-known-turn
+    note-requires
     add-moves
     loop-less
     loop-again
-    enum-told-2
+    enum-told
     sub-stage
     loop-less-2
     loop-again-2
-    enum-told-3
+    enum-told-2
     add-cuts
     loop-less-3
     loop-again-3
-    enum-told-4
+    enum-told-3
     same-length
     same-length-2
     same-length-3
     same-length-4
+    same-length-5
     returns)
