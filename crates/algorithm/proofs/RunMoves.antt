@@ -5,8 +5,11 @@ use mathlib.Core.List.{List, [], _∷_, _++_, append-nil}
 use mathlib.Core.Path.{_≡_, refl, sym, ap, subst, _∙_}
 use native.Mathlib.Nat.{le-refl, le-of-eq}
 use native.Mathlib.Omega.{arith}
+use lib.Dec.{eqb}
 use lib.ListN.{length, set, take, length-append}
 use lib.Seq.{take-append-le, take-at}
+use borrow.Author.Tests.{eqb-true, eqb-false}
+use Rattle.finite.proofs.Tests.{by-test}
 use Rattle.finite.proofs.Below.{none-below, by-less}
 use Rattle.model.specs.Instance.{Instance, ownerOf}
 use Rattle.model.specs.Sheet.{asRead}
@@ -14,15 +17,17 @@ use Rattle.model.specs.Algorithm.{State, Action, hand, pass, cut, stop, lack, O
 use Rattle.model.specs.Record.{Move, roundOf, handsOver, nextMoves, movesIn, played, moveAt}
 use Rattle.model.specs.Refusals.{sheetRefusal}
 use Rattle.model.specs.Promises.{RunMoves}
+use Rattle.model.proofs.Unique.{same-moves}
 use Rattle.model.proofs.Record.{played-append, move-before, move-next}
 use Rattle.algorithm.specs.Kinds.{Sound}
 use Rattle.algorithm.specs.Reached.{Reached}
 use Rattle.algorithm.specs.Hands.{Hands}
-use Rattle.algorithm.specs.RunMoves.{stateIn, Leads}
+use Rattle.algorithm.specs.RunMoves.{stateIn, Leads, TheMoves}
 use Rattle.algorithm.proofs.Reading.{sheet-sound}
 use Rattle.algorithm.proofs.Machine.{hand-known}
 use Rattle.algorithm.proofs.Begin.{opening-reached}
 use Rattle.algorithm.proofs.Ending.{reached}
+use Rattle.algorithm.proofs.Theorem.{theorem}
 
 leads-none : (I : Instance) → Leads I [] (opening I)
 unfolding opening played
@@ -123,3 +128,16 @@ run-moves s valid x E =
       inRounds = L .inRounds;
       lastRound = L .lastRound;
     }
+
+-- there are such moves for every sheet: none where nothing is run
+pub moves-of : (s : List ℕ) → TheMoves s
+moves-of s =
+    by-test (eqb (sheetRefusal s) 0)
+    (λ e. let valid = eqb-true (sheetRefusal s) 0 e in let T = theorem s valid in record { moves = movesIn (asRead s) (T .demand3 .ends .steps); run = λ _. run-moves s valid (T .final) (T .demand3 .ends) })
+    (λ e. record { moves = []; run = λ valid. absurd (eqb-false (sheetRefusal s) 0 e valid) })
+
+-- and they are those of any run that ends
+pub moves-are : (s : List ℕ) → sheetRefusal s ≡ 0 → {x : State} (E : Ends (asRead s) x) → moves-of s .moves ≡ movesIn (asRead s) (E .steps)
+moves-are s valid {x} E =
+    let R = moves-of s .run valid in
+    R .inOrder ∙ same-moves (asRead s) (R .ends .steps) (E .steps) (R .final) x (R .ends .ends) (E .ends)

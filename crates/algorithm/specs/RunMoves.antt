@@ -6,6 +6,8 @@ use lib.ListN.{length, take}
 use Rattle.model.specs.Instance.{Instance, ownerOf}
 use Rattle.model.specs.Algorithm.{State, Outcome, busy, done, lacking, opening}
 use Rattle.model.specs.Record.{Move, played, moveAt}
+use Rattle.model.specs.Refusals.{sheetRefusal}
+use Rattle.model.specs.Promises.{RunMoves}
 use Rattle.algorithm.specs.Hands.{Hands}
 
 -- the state that an outcome is in
@@ -24,3 +26,8 @@ pub record Leads (I : Instance) (moves : List Move) (s : State) : Type 0 where
       → Hands I (ownerOf (played (take k moves) (opening I .owners))) (moveAt moves k .chore) (moveAt moves k .giver) (moveAt moves k .receiver)
   pub inRounds : (j k : ℕ) → j ≤ k → k < length moves → moveAt moves j .round ≤ moveAt moves k .round
   pub lastRound : (k : ℕ) → k < length moves → moveAt moves k .round ≤ s .cuts + 1
+
+-- The moves of the run on the sheet s, if it breaks no rule.
+pub record TheMoves (s : List ℕ) : Type 0 where
+  pub moves : List Move
+  pub run : sheetRefusal s ≡ 0 → RunMoves s moves
