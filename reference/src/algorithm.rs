@@ -5,6 +5,21 @@ use crate::pricing::{best_chores, holdings, least_sum, Holding};
 use crate::search::{search, Found, Move};
 use std::cmp::Reverse;
 
+/// The step that makes a move, by its number in a record.
+#[derive(Debug, Clone, Copy, PartialEq, Eq)]
+pub enum Step {
+    TwoA = 1,
+    TwoB = 2,
+}
+
+/// A move that was made, and when. Rounds count from 1.
+#[derive(Debug, Clone, Copy, PartialEq, Eq)]
+pub struct Made {
+    pub handed: Move,
+    pub round: usize,
+    pub step: Step,
+}
+
 /// The state of a run. Agents and chores count from 0.
 #[derive(Debug, Clone)]
 pub struct Run<'a> {
@@ -18,8 +33,8 @@ pub struct Run<'a> {
 }
 
 impl<'a> Run<'a> {
-    /// Runs every round, until the stop in step 2b.
-    pub fn to_the_end(costs: &'a Costs) -> Self {
+    /// Runs every round, until the stop in step 2b, and tells of every move.
+    pub fn to_the_end(costs: &'a Costs, tell: &mut impl FnMut(Made)) -> Self {
         let (owner, price) = opening(costs);
         let mut run = Run {
             costs,
@@ -30,8 +45,8 @@ impl<'a> Run<'a> {
             moves: 0,
         };
         loop {
-            run.step_2a();
-            let reachable = run.step_2b();
+            run.step_2a(tell);
+            let reachable = run.step_2b(tell);
             if run.is_price_envy_free_up_to_one() {
                 return run;
             }
@@ -43,17 +58,21 @@ impl<'a> Run<'a> {
         self.groups.len()
     }
 
+    fn round(&self) -> usize {
+        self.cuts() + 1
+    }
+
     /// In round k: groups k-2 down to 1, each against the later groups.
-    fn step_2a(&mut self) {
-        let round = self.groups.len() + 1;
-        for group in (1..=round.saturating_sub(2)).rev() {
+    fn step_2a(&mut self, tell: &mut impl FnMut(Made)) {
+        for group in (1..=self.round().saturating_sub(2)).rev() {
             while let Some((giver, receiver)) = self.pair_of_2a(group) {
                 let chore = self.lowest_not_entitled(giver);
-                self.make(Move {
+                let due = Move {
                     giver,
                     receiver,
                     chore,
-                });
+                };
+                tell(self.make(due, Step::TwoA));
             }
         }
     }
@@ -78,14 +97,14 @@ impl<'a> Run<'a> {
     }
 
     /// Moves until no giver is reachable; hands back who is reachable then.
-    fn step_2b(&mut self) -> Vec<bool> {
+    fn step_2b(&mut self, tell: &mut impl FnMut(Made)) -> Vec<bool> {
         // Prices stay as they are during a step, so best chores do too.
         let best: Vec<Vec<usize>> = (0..self.costs.agents)
             .map(|agent| best_chores(self.costs, &self.price, agent))
             .collect();
         loop {
             match search(&best, &self.owner, &self.holdings()) {
-                Found::Move(step) => self.make(step),
+                Found::Move(due) => tell(self.make(due, Step::TwoB)),
                 Found::Reachable(reachable) => return reachable,
             }
         }
@@ -115,10 +134,15 @@ impl<'a> Run<'a> {
         self.groups.push(members.collect());
     }
 
-    fn make(&mut self, step: Move) {
-        assert_eq!(self.owner[step.chore], step.giver, "giver lacks the chore");
-        self.owner[step.chore] = step.receiver;
+    fn make(&mut self, due: Move, step: Step) -> Made {
+        assert_eq!(self.owner[due.chore], due.giver, "giver lacks the chore");
+        self.owner[due.chore] = due.receiver;
         self.moves += 1;
+        Made {
+            handed: due,
+            round: self.round(),
+            step,
+        }
     }
 
     fn holdings(&self) -> Vec<Holding> {

@@ -27,7 +27,7 @@ pub struct Tally {
 }
 
 impl Tally {
-    fn add(&mut self, moves: u64, cuts: u8) {
+    pub fn add(&mut self, moves: u64, cuts: u8) {
         self.moves += moves;
         self.cuts += u64::from(cuts);
     }

@@ -1,7 +1,8 @@
 //! The second program: the share-out of easy and difficult chores, and the
-//! checks of allocations and prices, written plainly from the scope document.
+//! checks of allocations and prices, written plainly from the scope document,
+//! with a record of the moves by the requests that came later.
 //!
-//! Where that document says person, reel, list, even, best reel, price-one,
+//! Where those documents say person, reel, list, even, best reel, price-one,
 //! ring and cut, the code says agent, chore, allocation (its bytes: owners),
 //! EF1, best chore, price up to one, distance and price cut. Bytes, verdicts
 //! and prints count agents and chores from 1; everything inside from 0.
@@ -18,10 +19,12 @@ pub mod output;
 pub mod plain;
 pub mod price_bytes;
 pub mod pricing;
+pub mod record;
 pub mod refusal;
 pub mod search;
 pub mod share_out;
 pub mod sheet;
+pub mod why;
 
 pub use book::{allocate_book, lookup, BookShareOut, SheetShareOut, Tally};
 pub use checks::{check_list, check_prices, dominates, is_small_enough, ListVerdict, PriceVerdict};

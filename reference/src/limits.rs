@@ -16,5 +16,7 @@ pub const MAX_SHEETS: usize = 16;
 pub const MAX_BOOK_BYTES: usize = 65_535;
 /// Entries that each long list of a book must have.
 pub const BOOK_ENTRIES: usize = MAX_SHEETS * MAX_CHORES;
+/// Bytes of the record that `why` lends for each sheet.
+pub const WHY_RECORD_BYTES: usize = 65_532;
 /// Waste is only decided where at most so many allocations exist.
 pub const MAX_ALLOCATIONS_TRIED: usize = 2_000_000;

@@ -1,7 +1,7 @@
-//! `reference shares < book` and `reference cases`.
+//! `reference shares < book`, `reference why < book` and `reference cases`.
 
 use reference::limits::MAX_BOOK_BYTES;
-use reference::{cases, output};
+use reference::{cases, output, why};
 use std::io::{self, Read, Write};
 use std::process::ExitCode;
 
@@ -10,9 +10,10 @@ fn main() -> ExitCode {
     let words: Vec<&str> = words.iter().map(String::as_str).collect();
     let done = match words[..] {
         ["shares"] => read_book().and_then(|book| write(&output::shares(&book))),
+        ["why"] => read_book().and_then(|book| write(&why::why(&book))),
         ["cases"] => write(&cases::print()),
         _ => {
-            eprintln!("usage: reference shares < book, or reference cases");
+            eprintln!("usage: reference shares|why < book, or reference cases");
             return ExitCode::from(2);
         }
     };

@@ -2,6 +2,7 @@
 
 use crate::book::{allocate_book_by, BookShareOut};
 use crate::checks::{check_prices, PriceVerdict};
+use crate::record::{self, Recorded};
 use crate::share_out::{allocate_by, ShareOut, Worked};
 use crate::sheet::Sheet;
 
@@ -30,6 +31,21 @@ pub fn allocate(
 ) -> ShareOut {
     let mut entries = read(prices);
     let answer = allocate_by(work, sheet, owners, &mut entries, scratch);
+    write(&entries, prices);
+    answer
+}
+
+/// The share-out with a record, with its prices likewise.
+pub fn allocate_recorded(
+    work: impl FnOnce(&Sheet) -> Recorded,
+    sheet: &[u8],
+    owners: &mut [u8],
+    prices: &mut [u8],
+    scratch: &mut [u8],
+    record: &mut [u8],
+) -> ShareOut {
+    let mut entries = read(prices);
+    let answer = record::allocate_by(work, sheet, owners, &mut entries, scratch, record);
     write(&entries, prices);
     answer
 }

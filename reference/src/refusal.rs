@@ -20,3 +20,5 @@ pub const LENT: u8 = 8;
 pub const BOOK: u8 = 9;
 /// A price list that is not one entry per chore, or a price out of range.
 pub const PRICE: u8 = 10;
+/// A lent record that the moves do not fit.
+pub const RECORD: u8 = 11;

@@ -1,6 +1,6 @@
 //! The share-out of one sheet into lent lists.
 
-use crate::algorithm::Run;
+use crate::algorithm::{self, Made, Run};
 use crate::costs::Costs;
 use crate::limits::MIN_SCRATCH;
 use crate::refusal;
@@ -23,11 +23,16 @@ pub struct Worked {
 
 /// Works an accepted sheet, near the text of the scope document.
 pub fn work(sheet: &Sheet) -> Worked {
+    work_telling(sheet, &mut |_| ())
+}
+
+/// The same, with every move told as it is made.
+pub fn work_telling(sheet: &Sheet, tell: &mut impl FnMut(Made)) -> Worked {
     let costs = Costs::as_read(sheet);
-    let run = Run::to_the_end(&costs);
+    let run = Run::to_the_end(&costs, tell);
     let price = |&price: &u64| u32::try_from(price).expect("a price has 32 bits");
     Worked {
-        owners: run.owner.iter().map(|&agent| owner_byte(agent)).collect(),
+        owners: owner_bytes(&run.owner),
         prices: run.price.iter().map(price).collect(),
         moves: run.moves,
         cuts: u8::try_from(run.cuts()).expect("fewer cuts than agents"),
@@ -53,23 +58,53 @@ pub fn allocate_by(
     prices: &mut [u32],
     scratch: &mut [u8],
 ) -> ShareOut {
-    let sheet = match Sheet::parse(sheet) {
-        Ok(sheet) => sheet,
-        Err(number) => return ShareOut::Refused(number),
-    };
+    match accepted(sheet, owners, prices, scratch) {
+        Ok(sheet) => hand_over(&work(&sheet), owners, prices, scratch),
+        Err(number) => ShareOut::Refused(number),
+    }
+}
+
+/// The sheet, if it breaks no rule and enough is lent for it.
+pub fn accepted<'a>(
+    sheet: &'a [u8],
+    owners: &[u8],
+    prices: &[u32],
+    scratch: &[u8],
+) -> Result<Sheet<'a>, u8> {
+    let sheet = Sheet::parse(sheet)?;
     let shortest = owners.len().min(prices.len());
     if shortest < sheet.chores || scratch.len() < MIN_SCRATCH {
-        return ShareOut::Refused(refusal::LENT);
+        return Err(refusal::LENT);
     }
-    let worked = work(&sheet);
-    owners[..sheet.chores].copy_from_slice(&worked.owners);
-    prices[..sheet.chores].copy_from_slice(&worked.prices);
+    Ok(sheet)
+}
+
+/// Writes the result to the start of the lent lists.
+pub fn hand_over(
+    worked: &Worked,
+    owners: &mut [u8],
+    prices: &mut [u32],
+    scratch: &mut [u8],
+) -> ShareOut {
+    let chores = worked.owners.len();
+    owners[..chores].copy_from_slice(&worked.owners);
+    prices[..chores].copy_from_slice(&worked.prices);
     // Neither way needs scratch; its end state is promised all the same.
     scratch.fill(0);
     ShareOut::Shared {
         moves: worked.moves,
         cuts: worked.cuts,
     }
+}
+
+/// The owners before round 1, counted from 1.
+pub fn opening(sheet: &Sheet) -> Vec<u8> {
+    let (owner, _) = algorithm::opening(&Costs::as_read(sheet));
+    owner_bytes(&owner)
+}
+
+fn owner_bytes(owner: &[usize]) -> Vec<u8> {
+    owner.iter().map(|&agent| owner_byte(agent)).collect()
 }
 
 /// The byte for an agent counted from 0.

@@ -4,10 +4,10 @@
 mod common;
 
 use common::Random;
-use reference::algorithm::Run;
+use reference::algorithm::{Made, Run, Step};
 use reference::costs::Costs;
 use reference::pricing::holdings;
-use reference::search::{search, Found};
+use reference::search::{search, Found, Move};
 use reference::sheet::Sheet;
 use std::cmp::Reverse;
 use std::collections::BTreeSet;
@@ -18,8 +18,7 @@ struct Slow<'a> {
     price: Vec<u64>,
     entitled: BTreeSet<usize>,
     groups: Vec<BTreeSet<usize>>,
-    moves: u64,
-    moves_of_2a: u64,
+    made: Vec<Made>,
 }
 
 impl<'a> Slow<'a> {
@@ -30,8 +29,7 @@ impl<'a> Slow<'a> {
             price: vec![costs.difficult * costs.difficult; costs.chores],
             entitled: BTreeSet::new(),
             groups: Vec::new(),
-            moves: 0,
-            moves_of_2a: 0,
+            made: Vec::new(),
         };
         // Downwards, so that the lowest agent who likes a chore comes last.
         for agent in (0..costs.agents).rev() {
@@ -69,9 +67,19 @@ impl<'a> Slow<'a> {
         chores.clone().filter(is_best).collect()
     }
 
+    fn make(&mut self, handed: Move, step: Step) {
+        self.owner[handed.chore] = handed.receiver;
+        let round = 1 + self.groups.len();
+        self.made.push(Made {
+            handed,
+            round,
+            step,
+        });
+    }
+
     fn step_2a(&mut self) {
-        let made = self.groups.len();
-        for group in (0..made.saturating_sub(1)).rev() {
+        let cuts = self.groups.len();
+        for group in (0..cuts.saturating_sub(1)).rev() {
             loop {
                 let later: BTreeSet<usize> =
                     self.groups[group + 1..].iter().flatten().copied().collect();
@@ -88,9 +96,12 @@ impl<'a> Slow<'a> {
                 }
                 let goes = |r: &usize| self.owner[*r] == giver && !self.entitled.contains(r);
                 let chore = (0..self.costs.chores).find(goes).unwrap();
-                self.owner[chore] = receiver;
-                self.moves += 1;
-                self.moves_of_2a += 1;
+                let due = Move {
+                    giver,
+                    receiver,
+                    chore,
+                };
+                self.make(due, Step::TwoA);
             }
         }
     }
@@ -101,10 +112,7 @@ impl<'a> Slow<'a> {
             let held = holdings(self.costs.agents, &self.owner, &self.price);
             match search(&best, &self.owner, &held) {
                 Found::Reachable(reachable) => return reachable,
-                Found::Move(step) => {
-                    self.owner[step.chore] = step.receiver;
-                    self.moves += 1;
-                }
+                Found::Move(due) => self.make(due, Step::TwoB),
             }
         }
     }
@@ -137,20 +145,23 @@ impl<'a> Slow<'a> {
 }
 
 /// Compares one sheet; hands back the moves of step 2a.
-fn compare(sheet: &[u8]) -> u64 {
+fn compare(sheet: &[u8]) -> usize {
     let costs = Costs::as_read(&Sheet::parse(sheet).unwrap());
-    let run = Run::to_the_end(&costs);
+    let mut told = Vec::new();
+    let run = Run::to_the_end(&costs, &mut |made| told.push(made));
     let mut slow = Slow::open(&costs);
     slow.run();
     assert_eq!(run.owner, slow.owner, "{sheet:?}");
     assert_eq!(run.price, slow.price, "{sheet:?}");
-    assert_eq!(run.moves, slow.moves, "{sheet:?}");
+    assert_eq!(told, slow.made, "{sheet:?}");
+    assert_eq!(run.moves, told.len() as u64, "{sheet:?}");
     assert_eq!(run.cuts(), slow.groups.len(), "{sheet:?}");
     // Cut groups have nobody in common.
     let members: usize = slow.groups.iter().map(BTreeSet::len).sum();
     let all: BTreeSet<&usize> = slow.groups.iter().flatten().collect();
     assert_eq!(members, all.len(), "{sheet:?}");
-    slow.moves_of_2a
+    let of_2a = |made: &&Made| made.step == Step::TwoA;
+    told.iter().filter(of_2a).count()
 }
 
 #[test]

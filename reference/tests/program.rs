@@ -37,19 +37,28 @@ fn shares() {
 }
 
 #[test]
-fn shares_of_a_long_input() {
+fn why() {
+    let book = compose::book(&[c()]);
+    assert_prints(&["why"], &book, &reference::why::why(&book));
+    assert_prints(&["why"], &[], "book refused 9\n");
+}
+
+#[test]
+fn a_long_input() {
     let longest = compose::book(&[vec![33; 65_530]]);
     let print = "sheet 1 refused 1\ntotal moves 0 cuts 0\n";
-    assert_prints(&["shares"], &longest, print);
     let longer = [&longest[..], &[0]].concat();
-    assert_prints(&["shares"], &longer, "book refused 9\n");
-    assert_prints(&["shares"], &longest.repeat(9), "book refused 9\n");
+    for word in ["shares", "why"] {
+        assert_prints(&[word], &longest, print);
+        assert_prints(&[word], &longer, "book refused 9\n");
+        assert_prints(&[word], &longest.repeat(9), "book refused 9\n");
+    }
 }
 
 #[test]
 fn cases_and_usage() {
     assert_prints(&["cases"], &[], &cases::print());
-    for words in [&[][..], &["share"], &["shares", "more"]] {
+    for words in [&[][..], &["share"], &["shares", "more"], &["why", "why"]] {
         assert_eq!(run(words, &[]).status.code(), Some(2));
     }
 }

@@ -4,7 +4,7 @@ mod common;
 
 use common::{b, c, share};
 use reference::limits::MIN_SCRATCH;
-use reference::{allocate, check_list, check_prices, compose};
+use reference::{allocate, check_list, check_prices, compose, record};
 use reference::{ListVerdict, PriceVerdict, ShareOut};
 
 /// Faults of a sheet, in the order in which they are found.
@@ -50,6 +50,27 @@ fn allocate_finds_the_first_of_any_faults() {
         assert!(owners.iter().all(|&entry| entry == 77));
         assert!(prices.iter().all(|&entry| entry == 78));
         assert!(scratch.iter().all(|&entry| entry == 79));
+    }
+}
+
+#[test]
+fn a_recorded_share_out_finds_the_first_of_any_faults() {
+    let numbers = [&SHEET_FAULTS[..], &[8, 8, 8, 11]].concat();
+    for faults in 1..1_usize << numbers.len() {
+        let has = |fault: usize| faults >> fault & 1 == 1;
+        let sheet = faulty_sheet(faults);
+        let mut owners = vec![77; if has(6) { 3 } else { 210 }];
+        let mut prices = vec![78; if has(7) { 3 } else { 210 }];
+        let mut scratch = vec![79; if has(8) { MIN_SCRATCH - 1 } else { MIN_SCRATCH }];
+        // Where the sheet is accepted, it takes 2 moves.
+        let mut made = vec![80; if has(9) { 11 } else { 12 }];
+        let expected = first_fault(faults, &numbers).unwrap();
+        let answer = record::allocate(&sheet, &mut owners, &mut prices, &mut scratch, &mut made);
+        assert_eq!(answer, ShareOut::Refused(expected), "faults {faults:b}");
+        assert!(owners.iter().all(|&entry| entry == 77));
+        assert!(prices.iter().all(|&entry| entry == 78));
+        assert!(scratch.iter().all(|&entry| entry == 79));
+        assert!(made.iter().all(|&entry| entry == 80));
     }
 }
 
