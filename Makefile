@@ -33,16 +33,22 @@ include ctests/ctests.mk install.mk
 cases:
 	@cargo run --offline --quiet --release --manifest-path reference/Cargo.toml -- cases | diff crates/cases/stdout -
 
-# The stored books, through the second program, through `shares`, and once more with every access watched.
+# The stored books, through the second program, through `shares` and `why`, and once more with every access watched.
+WATCHED := valgrind --quiet --error-exitcode=1
+
 books:
 	@$(CARGO_BUILD) reference/Cargo.toml
-	@tests/books/check reference/target/release/reference shares
-	@tests/books/check target/bin/shares
-	@tests/books/check valgrind --quiet --error-exitcode=1 target/bin/shares
+	@tests/books/check out reference/target/release/reference shares
+	@tests/books/check out target/bin/shares
+	@tests/books/check out $(WATCHED) target/bin/shares
+	@tests/books/check why reference/target/release/reference why
+	@tests/books/check why target/bin/why
+	@tests/books/check why $(WATCHED) target/bin/why
 
-# The arguments of `shares`, and what it says where it cannot read or write.
+# The arguments of `shares` and `why`, and what they say where they cannot read or write.
 program:
-	@tests/program/check target/bin/shares
+	@tests/program/check shares target/bin/shares
+	@tests/program/check why target/bin/why
 
 # The share-out of a book of sheets, as `shares` prints it and with names. The first time proves the library and builds the program.
 TEXTFORM := cargo run --offline --quiet --release --manifest-path textform/Cargo.toml --
