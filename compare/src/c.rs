@@ -46,6 +46,20 @@ in_both! {
 }
 
 extern "C" {
+    pub fn shares_allocate_recorded(
+        sheet: *const u8,
+        sheet_len: usize,
+        owners: *mut u8,
+        owners_len: usize,
+        prices: *mut u8,
+        prices_len: usize,
+        scratch: *mut u8,
+        scratch_len: usize,
+        record: *mut u8,
+        record_len: usize,
+        moves: *mut u64,
+        cuts: *mut u8,
+    ) -> u8;
     pub fn shares_find_sheet(
         book: *const u8,
         book_len: usize,

@@ -80,9 +80,15 @@ pub fn short(random: &mut Random, chores: usize) -> Lengths {
     lengths
 }
 
-/// The owners, the bytes of prices and the scratch hold what is expected, and nothing beside them has changed.
-pub fn assert_all_hold(lent: &[Lent<u8>; 3], expected: [Vec<u8>; 3], input: &[u8]) {
-    let names = ["owners", "prices", "scratch"];
+/// The owners, the bytes of prices, the scratch and, if there is one, the record hold what is expected, and nothing beside them has
+/// changed.
+pub fn assert_all_hold<const LISTS: usize>(
+    lent: &[Lent<u8>; LISTS],
+    expected: [Vec<u8>; LISTS],
+    input: &[u8],
+) {
+    let names = ["owners", "prices", "scratch", "record"];
+    assert!(LISTS <= names.len());
     for ((lent, expected), name) in lent.iter().zip(expected).zip(names) {
         assert!(
             lent.holds(&expected),

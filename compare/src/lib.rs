@@ -27,6 +27,35 @@ pub struct BookAnswers<'a> {
     pub tally: &'a mut [u64; 2],
 }
 
+/// 0 or the refusal number. The record gets six bytes for each move.
+pub fn allocate_recorded(
+    sheet: &[u8],
+    owners: &mut [u8],
+    prices: &mut [u8],
+    scratch: &mut [u8],
+    record: &mut [u8],
+    moves: &mut u64,
+    cuts: &mut u8,
+) -> u8 {
+    // SAFETY: as in `Library::allocate`.
+    unsafe {
+        c::shares_allocate_recorded(
+            sheet.as_ptr(),
+            sheet.len(),
+            owners.as_mut_ptr(),
+            owners.len(),
+            prices.as_mut_ptr(),
+            prices.len(),
+            scratch.as_mut_ptr(),
+            scratch.len(),
+            record.as_mut_ptr(),
+            record.len(),
+            moves,
+            cuts,
+        )
+    }
+}
+
 /// 0 or the refusal number; the stretch of the book is told by start and size.
 pub fn find_sheet(book: &[u8], sheet_number: usize, start: &mut usize, size: &mut usize) -> u8 {
     // SAFETY: as in `Library::allocate`.

@@ -1,0 +1,144 @@
+//! The share-out with a record against the second program: owners, prices,
+//! moves, cuts, the record and all lent memory; and against the share-out
+//! without a record.
+
+use compare::lent::{assert_all_hold, enough, short, Lengths, Lent};
+use compare::random::{damaged, Random};
+use compare::{allocate_recorded, shapes, PROVED};
+use reference::record::{self, Recorded, MOVE_BYTES};
+use reference::sheet::Sheet;
+use reference::{price_bytes, refusal, ShareOut};
+
+const SHEETS: usize = 100_000;
+const FAULTY: usize = 100_000;
+
+/// The refusal number or 0, the moves and the cuts.
+type Told = (u8, u64, u8);
+
+/// One sheet through both programs, with every byte that was lent compared.
+fn compared(
+    random: &mut Random,
+    work: impl FnOnce(&Sheet) -> Recorded,
+    sheet: &[u8],
+    lengths: Lengths,
+    record_length: usize,
+) -> u8 {
+    let [owners, prices, scratch] = lengths;
+    let lengths = [owners, prices, scratch, record_length];
+    let mut lent = lengths.map(|length| Lent::bytes(random, length));
+    let mut expected = lent.each_ref().map(|lent| lent.at_first().to_vec());
+    let held: Told = (0, random.word(), random.byte());
+    let told = {
+        let [owners, prices, scratch, record] = &mut expected;
+        let answer = price_bytes::allocate_recorded(work, sheet, owners, prices, scratch, record);
+        told_of(answer, held)
+    };
+    let got = {
+        let (_, mut moves, mut cuts) = held;
+        let [owners, prices, scratch, record] = lent.each_mut().map(Lent::part);
+        let number = allocate_recorded(
+            sheet, owners, prices, scratch, record, &mut moves, &mut cuts,
+        );
+        (number, moves, cuts)
+    };
+    assert_eq!(
+        got, told,
+        "number, moves, cuts of {sheet:?}, lent {lengths:?}"
+    );
+    assert_all_hold(&lent, expected, sheet);
+    if got.0 != refusal::RECORD {
+        assert_same_without(sheet, &lent, held, got);
+    }
+    got.0
+}
+
+/// A refused call tells its number, and leaves moves and cuts as they were.
+fn told_of(answer: ShareOut, (_, moves, cuts): Told) -> Told {
+    match answer {
+        ShareOut::Refused(number) => (number, moves, cuts),
+        ShareOut::Shared { moves, cuts } => (0, moves, cuts),
+    }
+}
+
+/// Without a record all is the same.
+fn assert_same_without(sheet: &[u8], lent: &[Lent<u8>; 4], held: Told, got: Told) {
+    let mut lists = lent.each_ref().map(|lent| lent.at_first().to_vec());
+    let (_, mut moves, mut cuts) = held;
+    let [owners, prices, scratch, _] = &mut lists;
+    let number = PROVED.allocate(sheet, owners, prices, scratch, &mut moves, &mut cuts);
+    assert_eq!(got, (number, moves, cuts), "{sheet:?}");
+    for (lent, without) in lent.iter().zip(&lists).take(3) {
+        assert_eq!(lent.now(), without, "{sheet:?}");
+    }
+}
+
+/// Exact, a byte short, longer, and none.
+fn record_lengths(random: &mut Random, exact: usize) -> [usize; 4] {
+    let longer = exact + 1 + random.below(3 * MOVE_BYTES);
+    [exact, exact.saturating_sub(1), longer, 0]
+}
+
+#[test]
+fn records_of_every_length() {
+    let mut random = Random::new(51);
+    let (mut moved, mut most_moves, mut most_rounds, mut of_2a) = (0, 0, 0, 0);
+    for _ in 0..SHEETS {
+        let sheet = shapes::any_sheet(&mut random);
+        let recorded = record::work(&Sheet::parse(&sheet).expect("the sheet keeps the rules"));
+        let exact = recorded.record.len();
+        for length in record_lengths(&mut random, exact) {
+            let work = |_: &Sheet| recorded.clone();
+            let lengths = enough(&mut random, usize::from(sheet[1]));
+            let number = compared(&mut random, work, &sheet, lengths, length);
+            let fits = if length < exact { refusal::RECORD } else { 0 };
+            assert_eq!(number, fits, "{sheet:?}, a record of {length}");
+        }
+        moved += usize::from(exact > 0);
+        most_moves = most_moves.max(exact / MOVE_BYTES);
+        for entry in recorded.record.chunks_exact(MOVE_BYTES) {
+            most_rounds = most_rounds.max(entry[4]);
+            of_2a += usize::from(entry[5] == 1);
+        }
+    }
+    let seen = (moved, most_moves, most_rounds, of_2a);
+    println!("{seen:?}");
+    assert!(moved > SHEETS / 2 && moved < SHEETS, "{seen:?}");
+    assert!(
+        most_moves > 150 && most_rounds > 8 && of_2a > 1_000,
+        "{seen:?}"
+    );
+}
+
+/// Long enough mostly; one list short, or any lengths.
+fn some_lengths(random: &mut Random, chores: usize) -> Lengths {
+    match random.below(4) {
+        0 => short(random, chores),
+        1 => [random.below(20), random.below(80), random.below(2_048)],
+        _ => enough(random, chores),
+    }
+}
+
+#[test]
+fn faults_one_and_several() {
+    let mut random = Random::new(52);
+    let mut numbers = [0; 12];
+    let mut before_the_record = 0;
+    for _ in 0..FAULTY {
+        let mut sheet = shapes::small_sheet(&mut random);
+        if random.chance(50) {
+            sheet = damaged(sheet, &mut random);
+        }
+        let chores = sheet.get(1).copied().map_or(0, usize::from);
+        let lengths = some_lengths(&mut random, chores);
+        let exact = Sheet::parse(&sheet).map_or(0, |sheet| record::work(&sheet).record.len());
+        let length = record_lengths(&mut random, exact)[random.below(4)];
+        let number = compared(&mut random, record::work, &sheet, lengths, length);
+        numbers[usize::from(number)] += 1;
+        // A short list is found before a short record.
+        before_the_record += usize::from(number == refusal::LENT && length < exact);
+    }
+    for number in [0, 1, 2, 3, 4, 5, 8, 11] {
+        assert!(numbers[number] > 1_000, "{numbers:?}");
+    }
+    assert!(before_the_record > 1_000, "{before_the_record}");
+}
