@@ -5,9 +5,11 @@
 
 #define CHORES 5
 #define PRICES (SHARES_PRICE_BYTES * CHORES)
+#define RECORD (SHARES_MOVE_BYTES * 3)
 
-/* Without chores, and with some. */
+/* Without chores, without moves, and with three of them. */
 static const uint8_t bare[SHARES_SHEET_BYTES(1, 0)] = {1, 0, 0, 1, 0, 3};
+static const uint8_t calm[SHARES_SHEET_BYTES(2, 2)] = {2, 2, 0, 1, 0, 2, 'e', 'd', 'd', 'e'};
 static const uint8_t sheet[SHARES_SHEET_BYTES(2, CHORES)] = {
     2, CHORES, 0, 1, 0, 3, 'e', 'e', 'e', 'e', 'e', 'd', 'd', 'd', 'd', 'e',
 };
@@ -37,6 +39,38 @@ static void test_allocate(void)
     expect("allocate", "no chores",
            shares_allocate(bare, sizeof bare, NULL, 0, NULL, 0, scratch, sizeof scratch, &moves, &cuts), SHARES_OK);
     expect("allocate", "no chores, moves and cuts", moves == 0 && cuts == 0, 1);
+}
+
+static uint8_t allocate_recorded(const uint8_t *s, size_t s_len, size_t own_len, size_t pri_len, uint8_t *record,
+                                 size_t record_len)
+{
+    static uint64_t moves;
+    static uint8_t cuts;
+    return shares_allocate_recorded(s, s_len, own_len == 0 ? NULL : lent, own_len, pri_len == 0 ? NULL : prices,
+                                    pri_len, scratch, sizeof scratch, record, record_len, &moves, &cuts);
+}
+
+static void test_allocate_recorded(void)
+{
+    static uint8_t record[RECORD];
+    uint64_t moves = 1;
+    uint8_t cuts = 1;
+    expect("allocate_recorded", "nothing at all",
+           shares_allocate_recorded(NULL, 0, NULL, 0, NULL, 0, NULL, 0, NULL, 0, &moves, &cuts), SHARES_BAD_LENGTH);
+    expect("allocate_recorded", "no sheet", allocate_recorded(NULL, 0, CHORES, PRICES, record, RECORD),
+           SHARES_BAD_LENGTH);
+    expect("allocate_recorded", "no owners", allocate_recorded(sheet, sizeof sheet, 0, PRICES, record, RECORD),
+           SHARES_SHORT_LIST);
+    expect("allocate_recorded", "no prices", allocate_recorded(sheet, sizeof sheet, CHORES, 0, record, RECORD),
+           SHARES_SHORT_LIST);
+    expect("allocate_recorded", "no scratch",
+           shares_allocate_recorded(sheet, sizeof sheet, lent, CHORES, prices, PRICES, NULL, 0, record, RECORD, &moves,
+                                    &cuts),
+           SHARES_SHORT_LIST);
+    expect("allocate_recorded", "no record", allocate_recorded(sheet, sizeof sheet, CHORES, PRICES, NULL, 0),
+           SHARES_SHORT_RECORD);
+    expect("allocate_recorded", "no moves", allocate_recorded(calm, sizeof calm, CHORES, PRICES, NULL, 0), SHARES_OK);
+    expect("allocate_recorded", "no chores", allocate_recorded(bare, sizeof bare, 0, 0, NULL, 0), SHARES_OK);
 }
 
 static void test_checks(void)
@@ -88,6 +122,7 @@ static void test_books(void)
 int main(void)
 {
     test_allocate();
+    test_allocate_recorded();
     test_checks();
     test_books();
     return finished("lists of no bytes at NULL");

@@ -79,12 +79,12 @@ static void test_price(uint32_t price)
 static void test_texts(void)
 {
     const char *const none = shares_refusal_text(255);
-    for (uint8_t i = SHARES_OK; i <= SHARES_BAD_PRICE; i++) {
+    for (uint8_t i = SHARES_OK; i <= SHARES_SHORT_RECORD; i++) {
         expect("refusal text", "of its own", strcmp(shares_refusal_text(i), none) != 0, 1);
         for (uint8_t j = 0; j < i; j++)
             expect("refusal text", "each another", strcmp(shares_refusal_text(i), shares_refusal_text(j)) != 0, 1);
     }
-    for (uint8_t i = SHARES_BAD_PRICE + 1; i != 0; i++)
+    for (uint8_t i = SHARES_SHORT_RECORD + 1; i != 0; i++)
         expect("refusal text", "no such number", strcmp(shares_refusal_text(i), none) == 0, 1);
 }
 

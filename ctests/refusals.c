@@ -9,6 +9,10 @@
 #define CHORES 5
 #define PRICES (SHARES_PRICE_BYTES * CHORES)
 #define LONG_PRICES (SHARES_PRICE_BYTES * SHARES_BOOK_ENTRIES)
+#define MOVES 3
+#define RECORD (SHARES_MOVE_BYTES * MOVES)
+/* Bytes after a record. */
+#define REST 20
 
 /* 2 agents, 5 chores, weights 1 and 3. */
 static const uint8_t sheet[SHARES_SHEET_BYTES(2, CHORES)] = {
@@ -17,11 +21,14 @@ static const uint8_t sheet[SHARES_SHEET_BYTES(2, CHORES)] = {
 static const uint8_t owners[CHORES] = {2, 2, 1, 1, 2};
 static const uint8_t prices[PRICES] = {0, 0, 0, 3, 0, 0, 0, 3, 0, 0, 0, 3, 0, 0, 0, 3, 0, 0, 0, 1};
 
+static const uint8_t record[RECORD] = {0, 5, 1, 2, 1, 2, 0, 1, 1, 2, 2, 2, 0, 2, 1, 2, 2, 2};
+
 /* All that is ever lent, and what it held before the call. */
 struct lent {
     uint8_t owners[SHARES_BOOK_ENTRIES];
     uint8_t prices[LONG_PRICES];
     uint8_t scratch[SHARES_SCRATCH];
+    uint8_t record[RECORD + REST];
     uint8_t dominating[CHORES];
     uint8_t refusals[SHARES_BOOK_SHEETS];
     uint64_t moves[SHARES_BOOK_SHEETS];
@@ -71,6 +78,14 @@ static uint8_t allocate(const uint8_t *s, size_t s_len, size_t owners_len, size_
     fill();
     return shares_allocate(s, s_len, lent.owners, owners_len, lent.prices, prices_len, lent.scratch, scratch_len,
                            lent.moves, lent.cuts);
+}
+
+static uint8_t allocate_recorded(const uint8_t *s, size_t s_len, size_t owners_len, size_t prices_len,
+                                 size_t scratch_len, size_t record_len)
+{
+    fill();
+    return shares_allocate_recorded(s, s_len, lent.owners, owners_len, lent.prices, prices_len, lent.scratch,
+                                    scratch_len, lent.record, record_len, lent.moves, lent.cuts);
 }
 
 static uint32_t check_list(const uint8_t *s, size_t s_len, const uint8_t *o, size_t o_len, size_t dominating_len)
@@ -135,6 +150,11 @@ static void test_sheets(void)
         const uint8_t *bytes = (const uint8_t *)fault->bytes;
         expect_kept("allocate", fault->what, allocate(bytes, fault->length, CHORES, PRICES, SHARES_SCRATCH),
                     fault->number);
+        expect_kept("allocate_recorded", fault->what,
+                    allocate_recorded(bytes, fault->length, CHORES, PRICES, SHARES_SCRATCH, RECORD), fault->number);
+        /* The record is looked at after the sheet. */
+        expect_kept("allocate_recorded without a record", fault->what,
+                    allocate_recorded(bytes, fault->length, CHORES, PRICES, SHARES_SCRATCH, 0), fault->number);
         expect_kept("check_list", fault->what, check_list(bytes, fault->length, owners, CHORES, CHORES), fault->number);
         expect_kept("check_prices", fault->what, check_prices(bytes, fault->length, owners, CHORES, prices, PRICES),
                     fault->number);
@@ -153,6 +173,45 @@ static void test_allocate(void)
                 SHARES_SHORT_LIST);
     expect_kept("allocate", "scratch 1023", allocate(sheet, WHOLE, CHORES, PRICES, SHARES_SCRATCH - 1),
                 SHARES_SHORT_LIST);
+}
+
+/* A record of this length is enough for the three moves. */
+static void expect_recorded(const char *what, size_t record_len)
+{
+    const char *call = "allocate_recorded";
+    expect(call, what, allocate_recorded(sheet, WHOLE, CHORES, PRICES, SHARES_SCRATCH, record_len), SHARES_OK);
+    expect(call, "moves", (uint32_t)lent.moves[0], MOVES);
+    expect(call, "cuts", lent.cuts[0], 1);
+    expect(call, "owners", memcmp(lent.owners, owners, CHORES) == 0, 1);
+    expect(call, "prices", memcmp(lent.prices, prices, PRICES) == 0, 1);
+    expect(call, "record", memcmp(lent.record, record, RECORD) == 0, 1);
+    expect(call, "beyond the owners", memcmp(lent.owners + CHORES, before.owners + CHORES, CHORES) == 0, 1);
+    expect(call, "beyond the prices", memcmp(lent.prices + PRICES, before.prices + PRICES, PRICES) == 0, 1);
+    expect(call, "beyond the record", memcmp(lent.record + RECORD, before.record + RECORD, REST) == 0, 1);
+}
+
+static void test_allocate_recorded(void)
+{
+    const char *call = "allocate_recorded";
+    const size_t s = SHARES_SCRATCH;
+    expect_recorded("a record of 18 bytes", RECORD);
+    expect_recorded("a record of 19 bytes", RECORD + 1);
+    expect_recorded("a record of 38 bytes", RECORD + REST);
+    expect_kept(call, "4 owners", allocate_recorded(sheet, WHOLE, CHORES - 1, PRICES, s, RECORD), SHARES_SHORT_LIST);
+    expect_kept(call, "19 bytes of prices", allocate_recorded(sheet, WHOLE, CHORES, PRICES - 1, s, RECORD),
+                SHARES_SHORT_LIST);
+    expect_kept(call, "scratch 1023", allocate_recorded(sheet, WHOLE, CHORES, PRICES, s - 1, RECORD),
+                SHARES_SHORT_LIST);
+    expect_kept(call, "a record of 17 bytes", allocate_recorded(sheet, WHOLE, CHORES, PRICES, s, RECORD - 1),
+                SHARES_SHORT_RECORD);
+    expect_kept(call, "no record", allocate_recorded(sheet, WHOLE, CHORES, PRICES, s, 0), SHARES_SHORT_RECORD);
+    /* Lists and scratch are looked at before the record. */
+    expect_kept(call, "4 owners, a record of 17 bytes",
+                allocate_recorded(sheet, WHOLE, CHORES - 1, PRICES, s, RECORD - 1), SHARES_SHORT_LIST);
+    expect_kept(call, "19 bytes of prices, no record", allocate_recorded(sheet, WHOLE, CHORES, PRICES - 1, s, 0),
+                SHARES_SHORT_LIST);
+    expect_kept(call, "scratch 1023, a record of 17 bytes",
+                allocate_recorded(sheet, WHOLE, CHORES, PRICES, s - 1, RECORD - 1), SHARES_SHORT_LIST);
 }
 
 static void test_check_list(void)
@@ -340,6 +399,7 @@ int main(void)
 {
     test_sheets();
     test_allocate();
+    test_allocate_recorded();
     test_check_list();
     test_check_prices();
     test_no_books();

@@ -10,6 +10,8 @@
 #define CHORES SHARES_MAX_CHORES
 #define SHEET SHARES_SHEET_BYTES(AGENTS, CHORES)
 #define PRICES (SHARES_PRICE_BYTES * CHORES)
+/* A record of a thousand moves, far more than these sheets take. */
+#define RECORD (SHARES_MOVE_BYTES * 1000)
 
 /* A number below `below`, and the next state. */
 static inline uint32_t draw(uint32_t *state, uint32_t below)

@@ -18,6 +18,7 @@
 static alignas(4096) uint8_t stack[STACK];
 
 static uint8_t sheet[SHEET], owners[CHORES], prices[PRICES], scratch[SHARES_SCRATCH], dominating[CHORES];
+static uint8_t record[RECORD];
 static uint8_t book[1 + 4 * BOOK_SHEETS + BOOK_SHEETS * SHEET];
 static uint8_t long_owners[SHARES_BOOK_ENTRIES], long_prices[SHARES_PRICE_BYTES * SHARES_BOOK_ENTRIES];
 static uint8_t refusals[SHARES_BOOK_SHEETS], cuts[SHARES_BOOK_SHEETS];
@@ -28,6 +29,12 @@ static size_t start, size;
 static void allocate(void)
 {
     shares_allocate(sheet, SHEET, owners, CHORES, prices, PRICES, scratch, sizeof scratch, moves, cuts);
+}
+
+static void allocate_recorded(void)
+{
+    shares_allocate_recorded(sheet, SHEET, owners, CHORES, prices, PRICES, scratch, sizeof scratch, record, RECORD,
+                             moves, cuts);
 }
 
 static void check_list(void)
@@ -60,12 +67,15 @@ struct call {
 
 static struct call calls[] = {
     {"shares_allocate", allocate, SHARES_STACK_ALLOCATE, 0},
+    {"shares_allocate_recorded", allocate_recorded, SHARES_STACK_ALLOCATE_RECORDED, 0},
     {"shares_check_list", check_list, SHARES_STACK_CHECK_LIST, 0},
     {"shares_check_prices", check_prices, SHARES_STACK_CHECK_PRICES, 0},
     {"shares_find_sheet", find_sheet, SHARES_STACK_FIND_SHEET, 0},
     {"shares_allocate_book", allocate_book, SHARES_STACK_ALLOCATE_BOOK, 0},
 };
 #define CALLS (sizeof calls / sizeof *calls)
+/* The first of them write the owners. */
+#define SHARE_OUTS 2
 
 static void *run_painted(void *argument)
 {
@@ -113,10 +123,10 @@ static void measure_all(uint32_t seed)
     for (size_t i = 0; i < CALLS; i++)
         measure(&calls[i]);
     owners[seed % CHORES] ^= 1;
-    for (size_t i = 1; i < CALLS; i++)
+    for (size_t i = SHARE_OUTS; i < CALLS; i++)
         measure(&calls[i]);
     memset(owners, 1, CHORES);
-    for (size_t i = 1; i < CALLS; i++)
+    for (size_t i = SHARE_OUTS; i < CALLS; i++)
         measure(&calls[i]);
 }
 

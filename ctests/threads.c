@@ -10,11 +10,12 @@
 #define TURNS 40
 
 struct answer {
-    uint8_t owners[CHORES];
-    uint8_t prices[PRICES];
+    uint8_t owners[CHORES], recorded_owners[CHORES];
+    uint8_t prices[PRICES], recorded_prices[PRICES];
     uint8_t dominating[CHORES];
-    uint64_t moves;
-    uint32_t refusal, cuts, list, edited, priced;
+    uint8_t record[RECORD];
+    uint64_t moves, recorded_moves;
+    uint32_t refusal, cuts, recorded, recorded_cuts, list, edited, priced;
 };
 
 static uint8_t sheets[SHEETS][SHEET];
@@ -27,6 +28,10 @@ static void ask(const uint8_t *sheet, struct answer *answer)
     answer->refusal = shares_allocate(sheet, SHEET, answer->owners, CHORES, answer->prices, PRICES, scratch,
                                       sizeof scratch, &answer->moves, &cuts);
     answer->cuts = cuts;
+    answer->recorded = shares_allocate_recorded(sheet, SHEET, answer->recorded_owners, CHORES, answer->recorded_prices,
+                                                PRICES, scratch, sizeof scratch, answer->record, RECORD,
+                                                &answer->recorded_moves, &cuts);
+    answer->recorded_cuts = cuts;
     answer->list = shares_check_list(sheet, SHEET, answer->owners, CHORES, answer->dominating, CHORES);
     answer->priced = shares_check_prices(sheet, SHEET, answer->owners, CHORES, answer->prices, PRICES);
     memcpy(edited, answer->owners, CHORES);
@@ -55,6 +60,7 @@ int main(void)
         make_sheet(sheets[i], (uint32_t)i);
         ask(sheets[i], &alone[i]);
         expect("alone", "shared out", alone[i].refusal, SHARES_OK);
+        expect("alone", "shared out with a record", alone[i].recorded, SHARES_OK);
         expect("alone", "accepted", shares_verdict_kind(alone[i].priced), SHARES_ACCEPTED);
     }
     for (size_t i = 0; i < THREADS; i++)

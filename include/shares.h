@@ -63,6 +63,8 @@ extern "C" {
 #define SHARES_PRICE_BYTES 4
 /* The least scratch, in bytes. */
 #define SHARES_SCRATCH 1024
+/* The bytes of a move in a record. */
+#define SHARES_MOVE_BYTES 6
 /* A book has 1 to 16 sheets and 1 to 65,535 bytes. */
 #define SHARES_BOOK_SHEETS 16
 #define SHARES_MAX_BOOK 65535
@@ -78,6 +80,7 @@ extern "C" {
 
 /* The most stack that each call takes, in bytes, on x86-64. */
 #define SHARES_STACK_ALLOCATE 3072
+#define SHARES_STACK_ALLOCATE_RECORDED 4272
 #define SHARES_STACK_CHECK_LIST 512
 #define SHARES_STACK_CHECK_PRICES 2048
 #define SHARES_STACK_FIND_SHEET 512
@@ -97,6 +100,7 @@ extern "C" {
 #define SHARES_SHORT_LIST 8      /* a lent list or the scratch is too short */
 #define SHARES_BAD_BOOK 9        /* no book, or no such sheet in it */
 #define SHARES_BAD_PRICE 10      /* other than m prices, or one out of range */
+#define SHARES_SHORT_RECORD 11   /* the moves do not fit the record */
 
 /* Shares out a sheet.
  *
@@ -115,6 +119,33 @@ uint8_t shares_allocate(const uint8_t *sheet, size_t sheet_len,
                         uint8_t *prices, size_t prices_len,
                         uint8_t *scratch, size_t scratch_len,
                         uint64_t *moves, uint8_t *cuts);
+
+/* Shares out a sheet as shares_allocate does, and records every move.
+ *
+ * Lent: as for shares_allocate, and record, at least 6 bytes for each move that
+ * the run makes. SHARES_MOVE_BYTES * SHARES_MOST_MOVES(n, m) are always enough.
+ * Returns 0: owners, prices, scratch, *moves and *cuts are as shares_allocate
+ * leaves them. The first 6 * *moves bytes of the record are written, and the rest
+ * of it is kept. They are the moves in the order made, six bytes each:
+ *
+ *   0 and 1   the chore
+ *   2         the giver, who had it until then
+ *   3         the receiver
+ *   4         the round, from 1; each price cut begins the next one
+ *   5         the step: 1 for step 2a, between cut groups, 2 for step 2b
+ *
+ * The run opens with each chore at the first agent who finds it easy, or else at
+ * agent 1, where a row of difficult marks only is read as all easy. The moves,
+ * made one after the other from there, give the owners that are returned.
+ * Returns a refusal number: 5 for a sheet of fewer than 6 bytes, 1, 2, 3, 5, 4,
+ * 8, 11.
+ */
+uint8_t shares_allocate_recorded(const uint8_t *sheet, size_t sheet_len,
+                                 uint8_t *owners, size_t owners_len,
+                                 uint8_t *prices, size_t prices_len,
+                                 uint8_t *scratch, size_t scratch_len,
+                                 uint8_t *record, size_t record_len,
+                                 uint64_t *moves, uint8_t *cuts);
 
 /* Checks any owner list: is it envy-free up to one chore, and does no other
  * list cost nobody more and somebody less?
@@ -269,6 +300,8 @@ static inline const char *shares_refusal_text(uint8_t number)
         return "The bytes are no book, or the book has no sheet of this number.";
     case SHARES_BAD_PRICE:
         return "The price list does not have one entry for each chore, or a price is 0 or above 1,000,000.";
+    case SHARES_SHORT_RECORD:
+        return "The record that was lent is too short for the moves.";
     default:
         return "No refusal has this number.";
     }
