@@ -178,12 +178,14 @@ static void test_allocate(void)
 /* A record of this length is enough for the three moves. */
 static void expect_recorded(const char *what, size_t record_len)
 {
+    static const uint8_t zeros[SHARES_SCRATCH];
     const char *call = "allocate_recorded";
     expect(call, what, allocate_recorded(sheet, WHOLE, CHORES, PRICES, SHARES_SCRATCH, record_len), SHARES_OK);
     expect(call, "moves", (uint32_t)lent.moves[0], MOVES);
     expect(call, "cuts", lent.cuts[0], 1);
     expect(call, "owners", memcmp(lent.owners, owners, CHORES) == 0, 1);
     expect(call, "prices", memcmp(lent.prices, prices, PRICES) == 0, 1);
+    expect(call, "scratch", memcmp(lent.scratch, zeros, sizeof zeros) == 0, 1);
     expect(call, "record", memcmp(lent.record, record, RECORD) == 0, 1);
     expect(call, "beyond the owners", memcmp(lent.owners + CHORES, before.owners + CHORES, CHORES) == 0, 1);
     expect(call, "beyond the prices", memcmp(lent.prices + PRICES, before.prices + PRICES, PRICES) == 0, 1);
