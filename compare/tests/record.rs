@@ -12,7 +12,8 @@ use reference::{price_bytes, refusal, ShareOut};
 const SHEETS: usize = 100_000;
 const FAULTY: usize = 100_000;
 
-/// The refusal number or 0, the moves and the cuts.
+/// The moves and the cuts, and before them the refusal number or 0.
+type Counts = (u64, u8);
 type Told = (u8, u64, u8);
 
 /// One sheet through both programs, with every byte that was lent compared.
@@ -27,14 +28,14 @@ fn compared(
     let lengths = [owners, prices, scratch, record_length];
     let mut lent = lengths.map(|length| Lent::bytes(random, length));
     let mut expected = lent.each_ref().map(|lent| lent.at_first().to_vec());
-    let held: Told = (0, random.word(), random.byte());
+    let held = (random.word(), random.byte());
     let told = {
         let [owners, prices, scratch, record] = &mut expected;
         let answer = price_bytes::allocate_recorded(work, sheet, owners, prices, scratch, record);
         told_of(answer, held)
     };
     let got = {
-        let (_, mut moves, mut cuts) = held;
+        let (mut moves, mut cuts) = held;
         let [owners, prices, scratch, record] = lent.each_mut().map(Lent::part);
         let number = allocate_recorded(
             sheet, owners, prices, scratch, record, &mut moves, &mut cuts,
@@ -53,17 +54,17 @@ fn compared(
 }
 
 /// A refused call tells its number, and leaves moves and cuts as they were.
-fn told_of(answer: ShareOut, (_, moves, cuts): Told) -> Told {
+fn told_of(answer: ShareOut, held: Counts) -> Told {
     match answer {
-        ShareOut::Refused(number) => (number, moves, cuts),
+        ShareOut::Refused(number) => (number, held.0, held.1),
         ShareOut::Shared { moves, cuts } => (0, moves, cuts),
     }
 }
 
 /// Without a record all is the same.
-fn assert_same_without(sheet: &[u8], lent: &[Lent<u8>; 4], held: Told, got: Told) {
+fn assert_same_without(sheet: &[u8], lent: &[Lent<u8>; 4], held: Counts, got: Told) {
     let mut lists = lent.each_ref().map(|lent| lent.at_first().to_vec());
-    let (_, mut moves, mut cuts) = held;
+    let (mut moves, mut cuts) = held;
     let [owners, prices, scratch, _] = &mut lists;
     let number = PROVED.allocate(sheet, owners, prices, scratch, &mut moves, &mut cuts);
     assert_eq!(got, (number, moves, cuts), "{sheet:?}");
@@ -78,10 +79,31 @@ fn record_lengths(random: &mut Random, exact: usize) -> [usize; 4] {
     [exact, exact.saturating_sub(1), longer, 0]
 }
 
+/// How many sheets took a move, the most moves and the last round of any, and
+/// the moves of step 2a of all.
+#[derive(Debug, Default)]
+struct Seen {
+    moved: usize,
+    moves: usize,
+    round: u8,
+    of_2a: usize,
+}
+
+impl Seen {
+    fn add(&mut self, record: &[u8]) {
+        self.moved += usize::from(!record.is_empty());
+        self.moves = self.moves.max(record.len() / MOVE_BYTES);
+        for entry in record.chunks_exact(MOVE_BYTES) {
+            self.round = self.round.max(entry[4]);
+            self.of_2a += usize::from(entry[5] == 1);
+        }
+    }
+}
+
 #[test]
 fn records_of_every_length() {
     let mut random = Random::new(51);
-    let (mut moved, mut most_moves, mut most_rounds, mut of_2a) = (0, 0, 0, 0);
+    let mut seen = Seen::default();
     for _ in 0..SHEETS {
         let sheet = shapes::any_sheet(&mut random);
         let recorded = record::work(&Sheet::parse(&sheet).expect("the sheet keeps the rules"));
@@ -93,20 +115,12 @@ fn records_of_every_length() {
             let fits = if length < exact { refusal::RECORD } else { 0 };
             assert_eq!(number, fits, "{sheet:?}, a record of {length}");
         }
-        moved += usize::from(exact > 0);
-        most_moves = most_moves.max(exact / MOVE_BYTES);
-        for entry in recorded.record.chunks_exact(MOVE_BYTES) {
-            most_rounds = most_rounds.max(entry[4]);
-            of_2a += usize::from(entry[5] == 1);
-        }
+        seen.add(&recorded.record);
     }
-    let seen = (moved, most_moves, most_rounds, of_2a);
     println!("{seen:?}");
-    assert!(moved > SHEETS / 2 && moved < SHEETS, "{seen:?}");
-    assert!(
-        most_moves > 150 && most_rounds > 8 && of_2a > 1_000,
-        "{seen:?}"
-    );
+    assert!(seen.moved > SHEETS / 2 && seen.moved < SHEETS, "{seen:?}");
+    assert!(seen.moves > 150 && seen.round > 8, "{seen:?}");
+    assert!(seen.of_2a > 1_000, "{seen:?}");
 }
 
 /// Long enough mostly; one list short, or any lengths.
