@@ -1,4 +1,5 @@
-//! Text into a book of sheets, and the print of `shares` back into names.
+//! Text into a book of sheets, and what `shares` and `why` print back into
+//! names.
 //!
 //! The text form, line by line:
 //!
@@ -26,8 +27,13 @@ pub mod book;
 pub mod draft;
 pub mod forms;
 pub mod lines;
+pub mod lists;
+pub mod moves;
 pub mod names;
+pub mod print;
 pub mod refusal;
 pub mod result;
+pub mod run;
 pub mod sheet;
 pub mod text;
+pub mod why;

@@ -23,6 +23,11 @@ impl fmt::Display for Fault {
     }
 }
 
+/// Makes a reason a fault of this line.
+pub fn at(line: usize) -> impl Fn(String) -> Fault {
+    move |reason| Fault::new(line, reason)
+}
+
 /// A line that is not blank.
 #[derive(Debug, Clone, PartialEq, Eq)]
 pub struct Line<'a> {

@@ -1,47 +1,20 @@
-//! Prints a result with names.
+//! Prints the result of `shares` with names, agent by agent.
 
-use crate::result::{BookResult, SheetResult, Tally};
+use crate::lists::Lists;
+use crate::print::{self, counted};
+use crate::result::BookResult;
 use crate::sheet::Sheet;
 
-/// One block per sheet, then the totals.
-pub fn print(sheets: &[Sheet], result: &BookResult) -> String {
-    let (results, total) = match result {
-        BookResult::Refused(refusal) => return format!("The book was refused {refusal}\n"),
-        BookResult::Shared { sheets, total } => (sheets, total),
-    };
-    let mut print = String::new();
-    for ((sheet, result), number) in sheets.iter().zip(results).zip(1..) {
-        print += &heading(number, &sheet.title);
-        print += &block(sheet, result);
-        print += "\n";
-    }
-    print + &format!("Total: {}\n", in_words(total))
-}
-
-fn heading(number: usize, title: &str) -> String {
-    match title {
-        "" => format!("Sheet {number}\n"),
-        _ => format!("Sheet {number}: {title}\n"),
-    }
-}
-
-fn block(sheet: &Sheet, result: &SheetResult) -> String {
-    match result {
-        SheetResult::Refused(refusal) => format!("  Refused {refusal}\n"),
-        SheetResult::Shared {
-            tally,
-            owners,
-            prices,
-        } => {
-            let agents = 0..sheet.agents.len();
-            let bundles = agents.map(|agent| bundle(sheet, agent, owners, prices));
-            bundles.collect::<String>() + &format!("  {}\n", in_words(tally))
-        }
-    }
+pub fn print(sheets: &[Sheet], result: &BookResult<Lists>) -> String {
+    print::print(sheets, result, |sheet, lists| {
+        let agents = 0..sheet.agents.len();
+        agents.map(|agent| bundle(sheet, agent, lists)).collect()
+    })
 }
 
 /// One agent's chores, each with the agent's mark and its price.
-fn bundle(sheet: &Sheet, agent: usize, owners: &[usize], prices: &[u32]) -> String {
+fn bundle(sheet: &Sheet, agent: usize, lists: &Lists) -> String {
+    let Lists { owners, prices } = lists;
     let held: Vec<usize> = (0..owners.len())
         .filter(|&chore| owners[chore] == agent)
         .collect();
@@ -57,17 +30,4 @@ fn bundle(sheet: &Sheet, agent: usize, owners: &[usize], prices: &[u32]) -> Stri
         print += &format!("    {title} ({mark}, price {})\n", prices[chore]);
     }
     print
-}
-
-fn in_words(tally: &Tally) -> String {
-    let moves = counted(tally.moves, "move");
-    let cuts = counted(tally.cuts, "price cut");
-    format!("{moves}, {cuts}")
-}
-
-fn counted(count: u64, word: &str) -> String {
-    match count {
-        1 => format!("1 {word}"),
-        _ => format!("{count} {word}s"),
-    }
 }

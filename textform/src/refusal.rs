@@ -1,4 +1,4 @@
-//! Refusal numbers that `shares` may print, in words.
+//! Refusal numbers that `shares` and `why` may print, in words.
 
 use std::fmt;
 
@@ -24,6 +24,15 @@ pub fn of_sheet(number: u8) -> Option<Refusal> {
         5 => "the sheet's length does not fit its people and reels",
         8 => "too little memory was lent",
         _ => return None,
+    };
+    Some(Refusal { number, reason })
+}
+
+/// The same for a share-out with a record of its moves, as `why` does it.
+pub fn of_recorded_sheet(number: u8) -> Option<Refusal> {
+    let reason = match number {
+        11 => "the record is too short for the run's moves",
+        _ => return of_sheet(number),
     };
     Some(Refusal { number, reason })
 }

@@ -1,4 +1,5 @@
-//! Reads what `shares` prints for the book of a text.
+//! Reads what `shares` or `why` prints for the book of a text. Both print the
+//! same but for what they tell of a sheet that is shared out.
 
 use crate::forms::{parse, unlike, Lines};
 use crate::lines::{Fault, Line};
@@ -12,28 +13,32 @@ pub struct Tally {
     pub cuts: u64,
 }
 
-#[derive(Debug, Clone, PartialEq, Eq)]
-pub enum SheetResult {
-    Refused(Refusal),
-    Shared {
-        tally: Tally,
-        /// The agent of each chore, from 0.
-        owners: Vec<usize>,
-        prices: Vec<u32>,
-    },
+/// What a program tells of a sheet that is shared out, after its tally.
+pub trait Told: Sized {
+    /// Why the program refused a sheet; none for a number that it refuses no
+    /// sheet with.
+    fn refusal(number: u8) -> Option<Refusal>;
+
+    fn read(lines: &mut Lines, sheet: &Sheet, tally: Tally) -> Result<Self, Fault>;
 }
 
 #[derive(Debug, Clone, PartialEq, Eq)]
-pub enum BookResult {
+pub enum SheetResult<T> {
+    Refused(Refusal),
+    Shared { tally: Tally, told: T },
+}
+
+#[derive(Debug, Clone, PartialEq, Eq)]
+pub enum BookResult<T> {
     Refused(Refusal),
     Shared {
-        sheets: Vec<SheetResult>,
+        sheets: Vec<SheetResult<T>>,
         total: Tally,
     },
 }
 
 /// The result for these sheets, or the first line that does not fit them.
-pub fn read(bytes: &[u8], sheets: &[Sheet]) -> Result<BookResult, Fault> {
+pub fn read<T: Told>(bytes: &[u8], sheets: &[Sheet]) -> Result<BookResult<T>, Fault> {
     let mut lines = Lines::new(bytes)?;
     let result = match lines.peek() {
         ["book", ..] => refused_book(&mut lines)?,
@@ -43,7 +48,7 @@ pub fn read(bytes: &[u8], sheets: &[Sheet]) -> Result<BookResult, Fault> {
     Ok(result)
 }
 
-fn refused_book(lines: &mut Lines) -> Result<BookResult, Fault> {
+fn refused_book<T>(lines: &mut Lines) -> Result<BookResult<T>, Fault> {
     let form = "`book refused R`";
     let line = lines.next(form)?;
     let ["book", "refused", word] = line.words[..] else {
@@ -55,7 +60,7 @@ fn refused_book(lines: &mut Lines) -> Result<BookResult, Fault> {
     Ok(BookResult::Refused(refusal))
 }
 
-fn shared_book(lines: &mut Lines, sheets: &[Sheet]) -> Result<BookResult, Fault> {
+fn shared_book<T: Told>(lines: &mut Lines, sheets: &[Sheet]) -> Result<BookResult<T>, Fault> {
     let mut results = Vec::with_capacity(sheets.len());
     let mut sum = Tally::default();
     for (sheet, number) in sheets.iter().zip(1..) {
@@ -88,8 +93,12 @@ fn total(lines: &mut Lines, sum: Tally) -> Result<(), Fault> {
     Err(unlike(&line, &form))
 }
 
-/// One line of a refused sheet, or three of a shared one.
-fn sheet_result(lines: &mut Lines, number: usize, sheet: &Sheet) -> Result<SheetResult, Fault> {
+/// The one line of a refused sheet, or all of a shared one.
+fn sheet_result<T: Told>(
+    lines: &mut Lines,
+    number: usize,
+    sheet: &Sheet,
+) -> Result<SheetResult<T>, Fault> {
     let form = format!("`sheet {number} moves M cuts C` or `sheet {number} refused R`");
     let line = lines.next(&form)?;
     let wrong = || unlike(&line, &form);
@@ -99,61 +108,20 @@ fn sheet_result(lines: &mut Lines, number: usize, sheet: &Sheet) -> Result<Sheet
     };
     match *rest {
         ["refused", word] => refused_sheet(&line, word),
-        ["moves", moves, "cuts", cuts] => Ok(SheetResult::Shared {
-            tally: tally(moves, cuts).ok_or_else(wrong)?,
-            owners: owners(lines, sheet)?,
-            prices: prices(lines, sheet)?,
-        }),
+        ["moves", moves, "cuts", cuts] => {
+            let tally = tally(moves, cuts).ok_or_else(wrong)?;
+            let told = T::read(lines, sheet, tally)?;
+            Ok(SheetResult::Shared { tally, told })
+        }
         _ => Err(wrong()),
     }
 }
 
-fn refused_sheet(line: &Line, word: &str) -> Result<SheetResult, Fault> {
-    let refusal = parse(word).and_then(refusal::of_sheet);
+fn refused_sheet<T: Told>(line: &Line, word: &str) -> Result<SheetResult<T>, Fault> {
+    let refusal = parse(word).and_then(T::refusal);
     let reason = || format!("no sheet is refused with `{word}`");
     let refusal = refusal.ok_or_else(|| Fault::new(line.number, reason()))?;
     Ok(SheetResult::Refused(refusal))
-}
-
-fn owners(lines: &mut Lines, sheet: &Sheet) -> Result<Vec<usize>, Fault> {
-    let agents = sheet.agents.len();
-    let what = format!("the number of a person, 1 to {agents}");
-    let owner = |word: &str| {
-        let number = parse(word).filter(|number| (1..=agents).contains(number));
-        number.map(|number| number - 1)
-    };
-    list(lines, "owners", &what, sheet.chores.len(), owner)
-}
-
-fn prices(lines: &mut Lines, sheet: &Sheet) -> Result<Vec<u32>, Fault> {
-    let price = |word: &str| parse(word).filter(|&price| price > 0);
-    let what = "a price, 1 or more";
-    list(lines, "prices", what, sheet.chores.len(), price)
-}
-
-/// A line of one entry per chore.
-fn list<T>(
-    lines: &mut Lines,
-    word: &str,
-    what: &str,
-    chores: usize,
-    read: impl Fn(&str) -> Option<T>,
-) -> Result<Vec<T>, Fault> {
-    let form = format!("`{word}` with one number per reel, {chores} in all");
-    let line = lines.next(&form)?;
-    let (first, entries) = (line.words[0], &line.words[1..]);
-    if first != word {
-        return Err(unlike(&line, &form));
-    }
-    if entries.len() != chores {
-        let reason = format!("this should be {form}, but has {}", entries.len());
-        return Err(Fault::new(line.number, reason));
-    }
-    let wrong = |entry, reel| format!("`{entry}` for reel {reel} is not {what}");
-    let entries = entries.iter().zip(1..).map(|(entry, reel)| {
-        read(entry).ok_or_else(|| Fault::new(line.number, wrong(entry, reel)))
-    });
-    entries.collect()
 }
 
 fn tally(moves: &str, cuts: &str) -> Option<Tally> {

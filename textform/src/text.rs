@@ -2,7 +2,7 @@
 
 use crate::book;
 use crate::draft::Draft;
-use crate::lines::{lines_of, Fault};
+use crate::lines::{at, lines_of, Fault};
 use crate::sheet::{Sheet, MAX_SHEETS};
 
 /// The sheets of a text, all within the limits of a book.
@@ -74,8 +74,4 @@ impl Reader {
         let reason = "this line belongs to no sheet; one begins with `sheet TITLE`";
         self.draft.as_mut().ok_or_else(|| Fault::new(line, reason))
     }
-}
-
-fn at(line: usize) -> impl Fn(String) -> Fault {
-    move |reason| Fault::new(line, reason)
 }

@@ -2,7 +2,7 @@
 
 mod common;
 
-use common::{NAMES_OF_C, RESULT_OF_C, SHEET_C};
+use common::{NAMES_OF_C, RESULT_OF_C, RUN_OF_C, SHEET_C, WHY_OF_C};
 use std::io::Write;
 use std::process::{Command, Output, Stdio};
 use textform::book;
@@ -46,6 +46,12 @@ fn book_and_names_of_c() {
 }
 
 #[test]
+fn why_of_c() {
+    let words = ["why", PATH_OF_C];
+    assert_writes(&words, RUN_OF_C.as_bytes(), WHY_OF_C.as_bytes());
+}
+
+#[test]
 fn errors() {
     assert_error(
         &["book"],
@@ -55,12 +61,12 @@ fn errors() {
     );
     let result = "textform: the result: line 1: no book";
     assert_error(&["names", PATH_OF_C], b"book refused 1\n", 1, result);
-    assert_error(
-        &["names", "no such file"],
-        b"",
-        1,
-        "textform: no such file: ",
-    );
+    let early = "textform: the result: line 2: this should be `opening`";
+    assert_error(&["why", PATH_OF_C], RESULT_OF_C.as_bytes(), 1, early);
+    for word in ["names", "why"] {
+        let words = [word, "no such file"];
+        assert_error(&words, b"", 1, "textform: no such file: ");
+    }
     // Not a text of sheets.
     let path = concat!(env!("CARGO_MANIFEST_DIR"), "/Cargo.toml");
     let text = format!("textform: {path}: line 1: unknown word `[package]`");
@@ -74,6 +80,8 @@ fn usage() {
         &["book", "x"],
         &["names"],
         &["names", "a", "b"],
+        &["why"],
+        &["why", "a", "b"],
         &["name"],
     ] {
         assert_error(words, b"", 2, "usage: textform book");

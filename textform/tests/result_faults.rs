@@ -1,8 +1,9 @@
-//! Results that do not fit the text, each with its line.
+//! Results of `shares` that do not fit the text, each with its line.
 
 mod common;
 
-use common::{assert_fault, names, plain_sheet, RESULT_OF_C, SHEET_C};
+use common::{assert_fault, names, plain_sheet, RESULT_OF_C, RUN_OF_C, SHEET_C};
+use textform::lists::Lists;
 
 /// The result of sheet C with one part changed.
 fn assert_change(from: &str, to: &str, line: usize, part: &str) {
@@ -100,6 +101,12 @@ fn a_result_of_another_length() {
 }
 
 #[test]
+fn a_result_of_why() {
+    let fault = names(SHEET_C, RUN_OF_C).unwrap_err();
+    assert_fault(fault, 2, "should be `owners`");
+}
+
+#[test]
 fn refusals() {
     let fault = |result: &str| names(SHEET_C, result).expect_err(result);
     for number in ["0", "6", "7", "9", "10", "11", "x"] {
@@ -118,6 +125,7 @@ fn refusals() {
 #[test]
 fn bytes_that_are_no_text() {
     let sheets = common::sheets(SHEET_C);
-    let fault = textform::result::read(b"sheet 1 refused 4\n\xff\n", &sheets).unwrap_err();
+    let bytes = b"sheet 1 refused 4\n\xff\n";
+    let fault = textform::result::read::<Lists>(bytes, &sheets).unwrap_err();
     assert_fault(fault, 2, "not UTF-8");
 }

@@ -4,12 +4,14 @@
 #![allow(dead_code)]
 
 use textform::lines::Fault;
+use textform::result::{self, BookResult, Told};
 use textform::sheet::Sheet;
-use textform::{result, text};
+use textform::text;
 
 pub const SHEET_C: &str = include_str!("../../../examples/sheet-c.txt");
 pub const FESTIVAL: &str = include_str!("../../../examples/festival.txt");
 
+/// What `shares` prints for the book of sheet C.
 pub const RESULT_OF_C: &str = "\
 sheet 1 moves 3 cuts 1
 owners 2 2 1 1 2
@@ -31,16 +33,61 @@ Sheet 1: C
 Total: 3 moves, 1 price cut
 ";
 
+/// What `why` prints for the book of sheet C.
+pub const RUN_OF_C: &str = "\
+sheet 1 moves 3 cuts 1
+opening 1 1 1 1 1
+reel 5 from 1 to 2 round 1 step 2
+reel 1 from 1 to 2 round 2 step 2
+reel 2 from 1 to 2 round 2 step 2
+owners 2 2 1 1 2
+prices 3 3 3 3 1
+total moves 3 cuts 1
+";
+
+pub const WHY_OF_C: &str = "\
+Sheet 1: C
+  Harbour, reel 1: Boris
+    opened with Ada
+    to Boris in round 2
+  Harbour, reel 2: Boris
+    opened with Ada
+    to Boris in round 2
+  Harbour, reel 3: Ada
+    opened with Ada, and stayed
+  Salt Road, reel 1: Ada
+    opened with Ada, and stayed
+  Salt Road, reel 2: Boris
+    opened with Ada
+    to Boris in round 1
+  3 moves, 1 price cut
+
+Total: 3 moves, 1 price cut
+";
+
 /// The sheets of a text that must be readable.
 pub fn sheets(text: &str) -> Vec<Sheet> {
     text::read(text.as_bytes()).expect("the text can be read")
 }
 
-/// A result with names, or its fault.
+/// A result of `shares` with names, or its fault.
 pub fn names(text: &str, result: &str) -> Result<String, Fault> {
+    with_names(text, result, textform::names::print)
+}
+
+/// A result of `why` with names, or its fault.
+pub fn why(text: &str, result: &str) -> Result<String, Fault> {
+    with_names(text, result, textform::why::print)
+}
+
+fn with_names<T: Told>(
+    text: &str,
+    result: &str,
+    print: fn(&[Sheet], &BookResult<T>) -> String,
+) -> Result<String, Fault> {
     let sheets = sheets(text);
     let result = result::read(result.as_bytes(), &sheets)?;
-    Ok(textform::names::print(&sheets, &result))
+    Ok(print(&sheets, &result))
 }
 
 /// A sheet of so many agents and chores, everything easy.
