@@ -13,6 +13,7 @@ CALLS := $(shell sed -n 's/^uint[0-9]*_t \(shares_[a-z_]*\).*/\1/p' include/shar
 
 all: $(ARCHIVE)
 	@rt check shares
+	@rt check why
 	@$(CARGO_BUILD) textform/Cargo.toml
 
 $(ARCHIVE): crates.txt $(shell find crates -name '*.rt' -o -name '*.antt')

@@ -9,15 +9,17 @@ PKGCONFIGDIR := $(LIBDIR)/pkgconfig
 # Each call has its page by name.
 CALL_PAGES := $(CALLS:%=$(MANDIR)/man3/%.3)
 
-INSTALLED := $(BINDIR)/shares $(BINDIR)/textform $(LIBDIR)/libshares.a $(INCLUDEDIR)/shares.h $(PKGCONFIGDIR)/shares.pc \
-	$(MANDIR)/man1/shares.1 $(MANDIR)/man1/textform.1 $(MANDIR)/man3/shares.3 $(CALL_PAGES)
+INSTALLED := $(BINDIR)/shares $(BINDIR)/why $(BINDIR)/textform $(LIBDIR)/libshares.a $(INCLUDEDIR)/shares.h $(PKGCONFIGDIR)/shares.pc \
+	$(MANDIR)/man1/shares.1 $(MANDIR)/man1/why.1 $(MANDIR)/man1/textform.1 $(MANDIR)/man3/shares.3 $(CALL_PAGES)
 
 install: all
 	@install -D -m 755 target/bin/shares $(DESTDIR)$(BINDIR)/shares
+	@install -D -m 755 target/bin/why $(DESTDIR)$(BINDIR)/why
 	@install -D -m 755 textform/target/release/textform $(DESTDIR)$(BINDIR)/textform
 	@install -D -m 644 $(ARCHIVE) $(DESTDIR)$(LIBDIR)/libshares.a
 	@install -D -m 644 include/shares.h $(DESTDIR)$(INCLUDEDIR)/shares.h
 	@install -D -m 644 man/shares.1 $(DESTDIR)$(MANDIR)/man1/shares.1
+	@install -D -m 644 man/why.1 $(DESTDIR)$(MANDIR)/man1/why.1
 	@install -D -m 644 man/textform.1 $(DESTDIR)$(MANDIR)/man1/textform.1
 	@install -D -m 644 man/shares.3 $(DESTDIR)$(MANDIR)/man3/shares.3
 	@for page in $(CALL_PAGES); do ln -sf shares.3 $(DESTDIR)$$page; done
