@@ -3,9 +3,11 @@
 use Prim.Native.Nat.{ℕ, _*_, _/_, _^_, _≤_, _<_, min}
 use mathlib.Core.List.{List, _++_}
 use mathlib.Core.Path.{_≡_, refl, sym, ap, _∙_}
-use lib.ListN.{length, getD, take, drop}
-use lib.Seq.{getD-take, length-take-le, take-at, drop-at}
-use borrow.Author.Tests.{ne-eqb}
+use native.Mathlib.Omega.{arith}
+use lib.ListN.{length, getD, take, drop, length-append}
+use lib.Seq.{getD-take, length-take-le, take-append-le, take-at, drop-at}
+use borrow.Author.Tests.{eq-eqb, ne-eqb}
+use Rattle.finite.proofs.Tests.{cond-true, cond-false}
 use Rattle.finite.proofs.Below.{by-same}
 use Rattle.model.specs.declared.ShareOut.{ShareOut}
 use Rattle.model.specs.Limits.{maxChores}
@@ -24,6 +26,7 @@ use Rattle.cmodel.specs.Numbers.{refusalIn, Told}
 use Rattle.cmodel.specs.Promises.{priceCheckInC, AllocatedInC}
 use Rattle.cmodel.proofs.PriceChecks.{whole}
 use Rattle.cmodel.proofs.Lent.{lent-same}
+use Rattle.callocation.specs.Telling.{Tellable, ToldOut}
 
 module _ (s : List ℕ) (owners scratch : ℕ) where
   pub same-refusal : {k : ℕ} (n : ℕ) → k ≡ min n maxChores → allocateRefusal s owners k scratch ≡ allocateRefusal s owners n scratch
@@ -40,108 +43,121 @@ answered {s} {owners} {prices} {scratch} a =
     (λ e. ap refusalIn (a .notRefused e .answer) ∙ sym e)
     (λ h. ap refusalIn (a .turnedDown h .answer))
 
-module _
-    {s owners scratch owners′ scratch′ xs xs′ : List ℕ} (bytes : List ℕ) {answer : ShareOut} {moves cuts moves′ cuts′ r : ℕ}
-    (short : length xs ≡ min (length bytes / 4) maxChores)
-    (a : Allocated s owners xs scratch owners′ xs′ scratch′ answer)
-    (t : Told answer moves cuts moves′ cuts′ r)
-  where
-    refusal : r ≡ allocateRefusal s (length owners) (length xs) (length scratch)
-    refusal = t .returned ∙ answered a
+-- the numbers lent, as many as the bytes hold prices, MAX_CHORES at most; and the whole list after the call: what came back, and the rest
+pub record Lent (bytes xs xs′ rest : List ℕ) : Type 0 where
+  pub short : length xs ≡ min (length bytes / 4) maxChores
+  pub back : length xs′ ≡ length xs
+  pub fits : (i : ℕ) → getD (xs′ ++ rest) i 0 < 2 ^ 32
 
-    -- all prices would have been turned down alike
-    whole-list : allocateRefusal s (length owners) (length xs) (length scratch) ≡ allocateRefusal s (length owners) (length (pricesIn bytes)) (length scratch)
-    whole-list = same-refusal s (length owners) (length scratch) (length (pricesIn bytes)) (rw (prices-count bytes) short)
+module _ {s owners scratch owners′ scratch′ bytes xs xs′ rest : List ℕ} {answer : ShareOut} (L : Lent bytes xs xs′ rest) (a : Allocated s owners xs scratch owners′ xs′ scratch′ answer) where
+  -- all prices would have been turned down alike
+  whole-list : allocateRefusal s (length owners) (length xs) (length scratch) ≡ allocateRefusal s (length owners) (length (pricesIn bytes)) (length scratch)
+  whole-list = same-refusal s (length owners) (length scratch) (length (pricesIn bytes)) (rw (prices-count bytes) (L .short))
 
-    pub turned-down : (r ≡ 0 → ⊥) → AllocatedInC s owners bytes scratch owners′ bytes scratch′ moves cuts moves′ cuts′ r
-    turned-down h =
-        let not-shared = a .turnedDown (λ e. h (refusal ∙ e)) in
+  not-shared : (refusalIn (shareOutReply answer) ≡ 0 → ⊥) → Allocated s owners (pricesIn bytes) scratch owners′ (pricesIn bytes) scratch′ answer
+  not-shared h =
+      let kept = a .turnedDown (λ e. h (answered a ∙ e)) in
+      record {
+        notRefused = λ e. absurd (h (answered a ∙ whole-list ∙ e));
+        turnedDown =
+            λ _. record {
+              answer = kept .answer ∙ ap refused whole-list;
+              ownersKept = kept .ownersKept;
+              pricesKept = refl;
+              scratchKept = kept .scratchKept;
+            };
+      }
+
+  module _ (z : refusalIn (shareOutReply answer) ≡ 0) where
+    fine : allocateRefusal s (length owners) (length xs) (length scratch) ≡ 0
+    fine = sym (answered a) ∙ z
+
+    room : choresOf s ≤ length xs
+    room = is-fine s (length owners) (length xs) (length scratch) fine .pricesRoom
+
+    long : choresOf s ≤ length (xs′ ++ rest)
+    long = simp length-append (omega (arith, room, L .back))
+
+    abbrev shared : SharedOut s owners xs scratch owners′ xs′ scratch′ answer
+    shared = a .notRefused fine
+
+    abbrev prices : List ℕ
+    prices = shared .final .prices
+
+    prices-are : take (choresOf s) (xs′ ++ rest) ≡ prices
+    prices-are = take-append-le (choresOf s) xs′ rest (omega (arith, room, L .back)) ∙ shared .pricesWritten
+
+    prices-long : length prices ≡ choresOf s
+    prices-long = rw (← prices-are) (length-take-le (choresOf s) (xs′ ++ rest) long)
+
+    -- the prices as numbers, those kept among them
+    abbrev numbers : List ℕ
+    numbers = prices ++ drop (choresOf s) (pricesIn bytes)
+
+    numbers-first : take (choresOf s) numbers ≡ prices
+    numbers-first = take-at prices _ (choresOf s) prices-long
+
+    written : withPrices (choresOf s) (xs′ ++ rest) bytes ≡ withPrices (choresOf s) numbers bytes
+    unfolding withPrices
+    written = rw (prices-are, numbers-first)
+
+    small : (c : ℕ) → c < length prices → getD prices c 0 < 2 ^ 32
+    small c l = rw (← prices-are, getD-take (choresOf s) (xs′ ++ rest) c 0 (rw prices-long at l)) (L .fits c)
+
+    -- the price check reads the prices that were written
+    passes : priceCheckInC s (take (choresOf s) owners′) (take (4 * choresOf s) (withPrices (choresOf s) (xs′ ++ rest) bytes)) ≡ accepted
+    passes =
+        let bytes-are = with-first (xs′ ++ rest) bytes (choresOf s) long ∙ ap bytesOf prices-are in
+        let size = bytes-length prices ∙ ap (λ k. 4 * k) prices-long in
+        let again = read-back prices small in
+        rw (bytes-are, shared .ownersWritten, ← whole s (shared .final .owners) (bytesOf prices) size, again) (shared .demand3 .passes)
+
+    shared-numbers : Allocated s owners (pricesIn bytes) scratch owners′ numbers scratch′ answer
+    shared-numbers =
         record {
-          answer = answer;
-          numbers = pricesIn bytes;
-          allocated =
-              record {
-                notRefused = λ e. absurd (h (refusal ∙ whole-list ∙ e));
-                turnedDown =
-                    λ _. record {
-                      answer = not-shared .answer ∙ ap refused whole-list;
-                      ownersKept = not-shared .ownersKept;
-                      pricesKept = refl;
-                      scratchKept = not-shared .scratchKept;
-                    };
+          notRefused =
+              λ _. record {
+                final = shared .final;
+                demand3 = shared .demand3;
+                few = shared .few;
+                answer = shared .answer;
+                ownersWritten = shared .ownersWritten;
+                ownersKept = shared .ownersKept;
+                pricesWritten = numbers-first;
+                pricesKept = drop-at prices _ (choresOf s) prices-long;
+                zeros = shared .zeros;
               };
-          told = t;
-          bytes = sym (rw (ne-eqb r 0 h));
-          passes = λ e. absurd (h e);
+          turnedDown = λ h. absurd (h (sym whole-list ∙ fine));
         }
 
-    module _ (z : r ≡ 0) where
-      fine : allocateRefusal s (length owners) (length xs) (length scratch) ≡ 0
-      fine = sym refusal ∙ z
+  -- the answer can be told
+  pub tellable : Tellable s answer (xs′ ++ rest) bytes
+  tellable =
+      record {
+        header = λ z. is-fine s (length owners) (length xs) (length scratch) (fine z) .valid .header;
+        room = λ z. record { inBytes = omega (arith, room z, L .short); inPrices = long z };
+      }
 
-      pub sheet-fine : sheetRefusal s ≡ 0
-      sheet-fine = is-fine s (length owners) (length xs) (length scratch) fine .unbroken
-
-      pub room : choresOf s ≤ length xs
-      room = is-fine s (length owners) (length xs) (length scratch) fine .pricesRoom
-
-      -- lent′ is the whole list of numbers in the end: its beginning is what came back
-      module _ (lent′ : List ℕ) (front : take (choresOf s) lent′ ≡ take (choresOf s) xs′) (long : choresOf s ≤ length lent′) (fits : (i : ℕ) → getD lent′ i 0 < 2 ^ 32) where
-        abbrev shared : SharedOut s owners xs scratch owners′ xs′ scratch′ answer
-        shared = a .notRefused fine
-
-        abbrev prices : List ℕ
-        prices = shared .final .prices
-
-        prices-are : take (choresOf s) lent′ ≡ prices
-        prices-are = front ∙ shared .pricesWritten
-
-        prices-long : length prices ≡ choresOf s
-        prices-long = rw (← prices-are) (length-take-le (choresOf s) lent′ long)
-
-        abbrev numbers : List ℕ
-        numbers = prices ++ drop (choresOf s) (pricesIn bytes)
-
-        numbers-first : take (choresOf s) numbers ≡ prices
-        numbers-first = take-at prices _ (choresOf s) prices-long
-
-        written : withPrices (choresOf s) lent′ bytes ≡ withPrices (choresOf s) numbers bytes
-        unfolding withPrices
-        written = rw (prices-are, numbers-first)
-
-        small : (c : ℕ) → c < length prices → getD prices c 0 < 2 ^ 32
-        small c l = rw (← prices-are, getD-take (choresOf s) lent′ c 0 (rw prices-long at l)) (fits c)
-
-        -- the price check reads the prices that were written
-        passes : priceCheckInC s (take (choresOf s) owners′) (take (4 * choresOf s) (withPrices (choresOf s) lent′ bytes)) ≡ accepted
-        passes =
-            let bytes-are = with-first lent′ bytes (choresOf s) long ∙ ap bytesOf prices-are in
-            let size = bytes-length prices ∙ ap (λ k. 4 * k) prices-long in
-            let again = read-back prices small in
-            rw (bytes-are, shared .ownersWritten, ← whole s (shared .final .owners) (bytesOf prices) size, again) (shared .demand3 .passes)
-
-        pub shared-out : {bytes′ : List ℕ} → bytes′ ≡ withPrices (choresOf s) lent′ bytes → AllocatedInC s owners bytes scratch owners′ bytes′ scratch′ moves cuts moves′ cuts′ 0
-        shared-out wrote =
-            record {
-              answer = answer;
-              numbers = numbers;
-              allocated =
-                  record {
-                    notRefused =
-                        λ _. record {
-                          final = shared .final;
-                          demand3 = shared .demand3;
-                          few = shared .few;
-                          answer = shared .answer;
-                          ownersWritten = shared .ownersWritten;
-                          ownersKept = shared .ownersKept;
-                          pricesWritten = numbers-first;
-                          pricesKept = drop-at prices _ (choresOf s) prices-long;
-                          zeros = shared .zeros;
-                        };
-                    turnedDown = λ h. absurd (h (sym whole-list ∙ fine));
-                  };
-              told = record { returned = sym z ∙ t .returned; movesAtExit = t .movesAtExit; cutsAtExit = t .cutsAtExit };
-              bytes = wrote ∙ written;
-              passes = λ _. rw wrote passes;
-            }
+  -- and once it is told, what C gets is as promised
+  pub told-in-c : {bytes′ : List ℕ} {moves cuts moves′ cuts′ r : ℕ} → ToldOut s answer (xs′ ++ rest) bytes bytes′ moves cuts moves′ cuts′ r → AllocatedInC s owners bytes scratch owners′ bytes′ scratch′ moves cuts moves′ cuts′ r
+  told-in-c {bytes′} {r = r} T =
+      by-same r 0
+      (λ e.
+      let z : refusalIn (shareOutReply answer) ≡ 0 = sym (T .told .returned) ∙ e in
+      let wrote : bytes′ ≡ withPrices (choresOf s) (xs′ ++ rest) bytes = T .bytes ∙ cond-true _ _ (eq-eqb r 0 e) in
+      record {
+        answer = answer;
+        numbers = numbers z;
+        allocated = shared-numbers z;
+        told = T .told;
+        bytes = wrote ∙ written z ∙ sym (cond-true _ _ (eq-eqb r 0 e));
+        passes = λ _. rw wrote (passes z);
+      })
+      (λ h. record {
+        answer = answer;
+        numbers = pricesIn bytes;
+        allocated = not-shared (λ z. h (T .told .returned ∙ z));
+        told = T .told;
+        bytes = T .bytes ∙ cond-false _ _ (ne-eqb r 0 h) ∙ sym (cond-false _ _ (ne-eqb r 0 h));
+        passes = λ e. absurd (h e);
+      })

@@ -1,1 +1,2 @@
 pub mod Lending
+pub mod Recording

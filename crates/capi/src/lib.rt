@@ -1,7 +1,7 @@
 // The C interface: the calls on byte slices and numbers. A price takes four bytes, high byte first.
 // Each export is one call of a function with the same promise in a crate below.
 
-ghost use Rattle.cmodel.specs.Promises.{AllocatedInC, ListCheckedInC, PricesCheckedInC, FoundInC, BookAllocatedInC};
+ghost use Rattle.cmodel.specs.Promises.{AllocatedInC, RecordedInC, ListCheckedInC, PricesCheckedInC, FoundInC, BookAllocatedInC};
 
 #[no_mangle]
 pub extern "C" fn shares_allocate(
@@ -15,6 +15,21 @@ pub extern "C" fn shares_allocate(
     ensures { λ r. ⌜ AllocatedInC (now (sheet .entry)) (now (owners .entry)) (now (prices .entry)) (now (scratch .entry)) (now (owners .exit)) (now (prices .exit)) (now (scratch .exit)) (now (moves .entry)) (now (cuts .entry)) (now (moves .exit)) (now (cuts .exit)) r ⌝ }
 {
     callocation::allocate(sheet, owners, prices, scratch, moves, cuts)
+}
+
+#[no_mangle]
+pub extern "C" fn shares_allocate_recorded(
+    sheet: &[u8],
+    owners: &mut [u8],
+    prices: &mut [u8],
+    scratch: &mut [u8],
+    record: &mut [u8],
+    moves: &mut u64,
+    cuts: &mut u8,
+) -> u8
+    ensures { λ r. ⌜ RecordedInC (now (sheet .entry)) (now (owners .entry)) (now (prices .entry)) (now (scratch .entry)) (now («record» .entry)) (now (owners .exit)) (now (prices .exit)) (now (scratch .exit)) (now («record» .exit)) (now (moves .entry)) (now (cuts .entry)) (now (moves .exit)) (now (cuts .exit)) r ⌝ }
+{
+    callocation::allocate_recorded(sheet, owners, prices, scratch, record, moves, cuts)
 }
 
 #[no_mangle]

@@ -11,11 +11,12 @@ use Rattle.model.specs.declared.BookResult.{BookResult}
 use Rattle.model.specs.Instance.{ownerOf, priceOf}
 use Rattle.model.specs.Sheet.{agentsOf, choresOf, asMarked}
 use Rattle.model.specs.Contents.{sheetCount, sheetStart, sheetSize, sheetOf}
-use Rattle.model.specs.Refusals.{_orElse_, _when_, sheetRefusal, ownersRefusal, pricesRefusal, lookupRefusal}
+use Rattle.model.specs.Record.{Move}
+use Rattle.model.specs.Refusals.{_orElse_, _when_, sheetRefusal, ownersRefusal, pricesRefusal, recordedRefusal, lookupRefusal}
 use Rattle.model.specs.Replies.{Reply, holds, wasteful, accepted}
 use Rattle.model.specs.Verdicts.{unlessRefused, priceVerdict, listCheck}
 use Rattle.model.specs.Book.{firstEntry}
-use Rattle.model.specs.Promises.{Dominating, Allocated, entryAt, BookAllocated}
+use Rattle.model.specs.Promises.{Dominating, Allocated, RunMoves, Written, entryAt, BookAllocated}
 use Rattle.pricebytes.specs.PriceBytes.{pricesIn, withPrices}
 use Rattle.cmodel.specs.Numbers.{verdictNumber, refusalAfter, movesAfter, cutsAfter, firstAfter, Told}
 
@@ -54,6 +55,25 @@ pub record AllocatedInC (s owners prices scratch owners′ prices′ scratch′ 
   pub bytes : prices′ ≡ cond (eqb r 0) (withPrices (choresOf s) numbers prices) prices
   -- demand 3 in bytes: the price check accepts the first m entries of both lists
   pub passes : r ≡ 0 → priceCheckInC s (take (choresOf s) owners′) (take (4 * choresOf s) prices′) ≡ accepted
+
+-- Everything lent to a refused share-out with a record holds what it held.
+pub record NothingWritten (owners prices scratch bytes owners′ prices′ scratch′ bytes′ : List ℕ) (moves cuts moves′ cuts′ : ℕ) : Type 0 where
+  pub ownersKept : owners′ ≡ owners
+  pub pricesKept : prices′ ≡ prices
+  pub scratchKept : scratch′ ≡ scratch
+  pub recordKept : bytes′ ≡ bytes
+  pub movesKept : moves′ ≡ moves
+  pub cutsKept : cuts′ ≡ cuts
+
+-- The share-out with a record of its moves.
+pub record RecordedInC (s owners prices scratch bytes owners′ prices′ scratch′ bytes′ : List ℕ) (moves cuts moves′ cuts′ r : ℕ) : Type 0 where
+  -- the moves of the run on a sheet that breaks no rule
+  pub made : List Move
+  pub run : sheetRefusal s ≡ 0 → RunMoves s made
+  pub answer : r ≡ recordedRefusal s (length owners) (length (pricesIn prices)) (length scratch) (length made) (length bytes)
+  -- the promise without a record, demand 3 in it, and the moves in the record
+  pub notRefused : r ≡ 0 → AllocatedInC s owners prices scratch owners′ prices′ scratch′ moves cuts moves′ cuts′ r × Written made bytes bytes′
+  pub turnedDown : (r ≡ 0 → ⊥) → NothingWritten owners prices scratch bytes owners′ prices′ scratch′ bytes′ moves cuts moves′ cuts′
 
 -- The lookup of a sheet by its number: where its part of the book starts, and its size.
 pub record FoundInC (book : List ℕ) (sheetNumber start size start′ size′ r : ℕ) : Type 0 where
