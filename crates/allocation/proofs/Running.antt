@@ -8,7 +8,7 @@ use lib.ListN.{length}
 use Rattle.model.specs.Limits.{maxAgents}
 use Rattle.model.specs.Sheet.{agentsOf, choresOf, asRead}
 use Rattle.model.specs.MostMoves.{mostMoves, mostEver}
-use Rattle.model.specs.Algorithm.{State, Action, hand, busy, done, action, step, next, after, Ends}
+use Rattle.model.specs.Algorithm.{State, hand, busy, done, action, step, next, after, Ends}
 use Rattle.model.specs.Record.{handsOver, nextMoves, movesIn}
 use Rattle.model.proofs.MostMoves.{most-at-4000}
 use Rattle.records.specs.Noted.{moveOf, Numbers, Noted, Holding}
@@ -49,63 +49,64 @@ module _ {s : List ℕ} (v : Valid s) {owners prices groups entitled lent bytes 
   unfolding asRead
   cuts-fit = omega (arith, fewer-cuts state-reached, v .agentsFit)
 
-  -- what is handed over has numbers that fit a record
-  pub numbers : {c w u : ℕ} → action (asRead s) st ≡ hand c w u → Numbers c w u cuts
-  unfolding asRead
-  numbers e =
-      let h = hand-known state-reached (read-sound v) e in
-      record {
-        ofChore = omega (arith, h .chore, v .choresFit);
-        ofGiver = omega (arith, h .giver, v .agentsFit);
-        ofReceiver = omega (arith, h .receiver, v .agentsFit);
-        ofRound = cuts-fit;
-      }
-
   -- the moves so far are as many as the counter says
   counted : length (movesIn (asRead s) (R .count)) ≡ moves
   unfolding stateIn
   counted =
       subst (λ o. length (movesIn (asRead s) (R .count)) ≡ stateIn o .moves) (R .comes) (leads (read-sound v) (R .count) .count)
 
-  -- one step more: its moves come after those so far
-  moves-next : {a : Action} → action (asRead s) st ≡ a → movesIn (asRead s) (suc (R .count)) ≡ movesIn (asRead s) (R .count) ++ handsOver st a
-  unfolding movesIn nextMoves
-  moves-next e =
-      ap (λ o. movesIn (asRead s) (R .count) ++ nextMoves (asRead s) o) (R .comes)
-      ∙ ap (λ a. movesIn (asRead s) (R .count) ++ handsOver st a) e
+  -- a turn that answered r
+  module _ {owners′ prices′ groups′ entitled′ : List ℕ} {answer r : Turn} (T : Turned s owners prices groups entitled cuts stage answer owners′ prices′ groups′ entitled′) (e : answer ≡ r) where
+    acts : action (asRead s) st ≡ actionOf r
+    acts = T .acts moves ∙ ap actionOf e
 
-  -- a move is noted; what hands nothing over leaves the record alone
-  pub notes : {bytes′ : List ℕ} {c w u : ℕ} → action (asRead s) st ≡ hand c w u → Noted moves (moveOf c w u cuts stage) bytes bytes′ → Holding (movesIn (asRead s) (suc (R .count))) lent bytes′
-  unfolding handsOver
-  notes e N = rw (moves-next e) (noted-on (R .noted) counted N)
+    steps : step (asRead s) st ≡ named r owners′ prices′ groups′ entitled′ moves cuts stage
+    steps = T .steps moves ∙ ap (λ r. named r owners′ prices′ groups′ entitled′ moves cuts stage) e
 
-  pub notes-none : {a : Action} → action (asRead s) st ≡ a → handsOver st a ≡ [] → Holding (movesIn (asRead s) (suc (R .count))) lent bytes
-  notes-none e q = rw (moves-next e, q, append-nil (movesIn (asRead s) (R .count))) (R .noted)
+    comes-next : after (asRead s) (suc (R .count)) ≡ named r owners′ prices′ groups′ entitled′ moves cuts stage
+    unfolding after next
+    comes-next = ap (next (asRead s)) (R .comes) ∙ steps
 
-  pub runs-on : {owners′ prices′ groups′ entitled′ bytes′ : List ℕ} {moves′ cuts′ stage′ : ℕ} → step (asRead s) st ≡ busy (stateOf owners′ prices′ groups′ entitled′ moves′ cuts′ stage′) → Holding (movesIn (asRead s) (suc (R .count))) lent bytes′ → Running s owners′ prices′ groups′ entitled′ lent bytes′ moves′ cuts′ stage′
-  unfolding after next
-  runs-on e H = record { count = suc (R .count); comes = ap (next (asRead s)) (R .comes) ∙ e; noted = H }
+    -- what it handed over comes after the moves so far
+    moves-next : movesIn (asRead s) (suc (R .count)) ≡ movesIn (asRead s) (R .count) ++ handsOver st (actionOf r)
+    unfolding movesIn nextMoves
+    moves-next =
+        ap (λ o. movesIn (asRead s) (R .count) ++ nextMoves (asRead s) o) (R .comes)
+        ∙ ap (λ a. movesIn (asRead s) (R .count) ++ handsOver st a) acts
 
-  pub falls : {t : State} → step (asRead s) st ≡ busy t → stepNumber (asRead s) t < stepNumber (asRead s) st
-  falls e = step-falls (read-sound v) state-reached e
+    pub falls : {t : State} → named r owners′ prices′ groups′ entitled′ moves cuts stage ≡ busy t → stepNumber (asRead s) t < stepNumber (asRead s) st
+    falls q = step-falls (read-sound v) state-reached (steps ∙ q)
 
-  pub ends-here : {owners′ prices′ groups′ entitled′ bytes′ : List ℕ} {moves′ cuts′ stage′ : ℕ} → step (asRead s) st ≡ done (stateOf owners′ prices′ groups′ entitled′ moves′ cuts′ stage′) → Holding (movesIn (asRead s) (suc (R .count))) lent bytes′ → RunEnds s owners′ prices′ groups′ entitled′ lent bytes′ moves′ cuts′
-  unfolding after next
-  ends-here e H =
-      record { stage = _; ends = record { steps = suc (R .count); ends = ap (next (asRead s)) (R .comes) ∙ e }; noted = H }
+    -- 2b passes nothing on
+    pub passes-down : {stage′ : ℕ} → named r owners′ prices′ groups′ entitled′ moves cuts stage ≡ busy (stateOf owners′ prices′ groups′ entitled′ moves cuts stage′) → 0 < stage
+    passes-down q = passing (asRead s) st (steps ∙ q) refl refl
 
-  -- 2b passes nothing on
-  pub passes-down : {owners′ prices′ groups′ entitled′ : List ℕ} {stage′ : ℕ} → step (asRead s) st ≡ busy (stateOf owners′ prices′ groups′ entitled′ moves cuts stage′) → 0 < stage
-  passes-down e = passing (asRead s) st e refl refl
+    -- a move's numbers fit the record, and it is noted there
+    module _ {c w u : ℕ} (q : actionOf r ≡ hand c w u) where
+      pub numbers : Numbers c w u cuts
+      unfolding asRead
+      numbers =
+          let h = hand-known state-reached (read-sound v) (acts ∙ q) in
+          record {
+            ofChore = omega (arith, h .chore, v .choresFit);
+            ofGiver = omega (arith, h .giver, v .agentsFit);
+            ofReceiver = omega (arith, h .receiver, v .agentsFit);
+            ofRound = cuts-fit;
+          }
 
--- one step, by the answer of a turn
-pub stepping : {s owners prices groups entitled owners′ prices′ groups′ entitled′ : List ℕ} {cuts stage : ℕ} {answer r : Turn} (moves : ℕ) → Turned s owners prices groups entitled cuts stage answer owners′ prices′ groups′ entitled′ → answer ≡ r → step (asRead s) (stateOf owners prices groups entitled moves cuts stage) ≡ named r owners′ prices′ groups′ entitled′ moves cuts stage
-stepping {owners′ = owners′} {prices′} {groups′} {entitled′} {cuts} {stage} moves T e =
-    T .steps moves ∙ ap (λ r. named r owners′ prices′ groups′ entitled′ moves cuts stage) e
+      pub notes : {bytes′ : List ℕ} → Noted moves (moveOf c w u cuts stage) bytes bytes′ → Holding (movesIn (asRead s) (suc (R .count))) lent bytes′
+      unfolding handsOver
+      notes N = rw (moves-next, q) (noted-on (R .noted) counted N)
 
--- and the action
-pub acting : {s owners prices groups entitled owners′ prices′ groups′ entitled′ : List ℕ} {cuts stage : ℕ} {answer r : Turn} (moves : ℕ) → Turned s owners prices groups entitled cuts stage answer owners′ prices′ groups′ entitled′ → answer ≡ r → action (asRead s) (stateOf owners prices groups entitled moves cuts stage) ≡ actionOf r
-acting moves T e = T .acts moves ∙ ap actionOf e
+    -- what hands nothing over leaves the record alone
+    pub notes-none : handsOver st (actionOf r) ≡ [] → Holding (movesIn (asRead s) (suc (R .count))) lent bytes
+    notes-none q = rw (moves-next, q, append-nil (movesIn (asRead s) (R .count))) (R .noted)
+
+    pub runs-on : {bytes′ : List ℕ} {moves′ cuts′ stage′ : ℕ} → named r owners′ prices′ groups′ entitled′ moves cuts stage ≡ busy (stateOf owners′ prices′ groups′ entitled′ moves′ cuts′ stage′) → Holding (movesIn (asRead s) (suc (R .count))) lent bytes′ → Running s owners′ prices′ groups′ entitled′ lent bytes′ moves′ cuts′ stage′
+    runs-on q H = record { count = suc (R .count); comes = comes-next ∙ q; noted = H }
+
+    pub ends-here : {bytes′ : List ℕ} {moves′ cuts′ stage′ : ℕ} → named r owners′ prices′ groups′ entitled′ moves cuts stage ≡ done (stateOf owners′ prices′ groups′ entitled′ moves′ cuts′ stage′) → Holding (movesIn (asRead s) (suc (R .count))) lent bytes′ → RunEnds s owners′ prices′ groups′ entitled′ lent bytes′ moves′ cuts′
+    ends-here q H = record { stage = _; ends = record { steps = suc (R .count); ends = comes-next ∙ q }; noted = H }
 
 -- the lists in which a run ends have their lengths
 pub ended-shaped : {s : List ℕ} {x : State} → Valid s → Ends (asRead s) x → Shaped (asRead s) x

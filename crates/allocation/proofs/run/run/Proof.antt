@@ -3,12 +3,11 @@ use mathlib.Core.Path.{refl}
 use native.Mathlib.Omega.{arith}
 use borrow.Author.Needs.{needs}
 use Rattle.model.specs.Sheet.{asRead}
-use Rattle.model.specs.Algorithm.{hand, action}
 use Rattle.model.specs.Record.{handsOver}
 use Rattle.algorithm.specs.Reached.{stepNumber, Shaped}
 use Rattle.steps.specs.Turns.{stateOf}
 use Rattle.allocation.specs.Runs.{Running, Kit}
-use Rattle.allocation.proofs.Running.{state-reached, turning, moves-fit, cuts-fit, numbers, notes, notes-none, runs-on, stepping, acting, passes-down, falls, ends-here}
+use Rattle.allocation.proofs.Running.{state-reached, turning, moves-fit, cuts-fit, numbers, notes, notes-none, runs-on, passes-down, falls, ends-here}
 use Rattle.allocation.proofs.run.run.Statement.{statement}
 use Rattle.allocation.proofs.run.run.Tie as tie
 
@@ -49,8 +48,8 @@ note-requires : tie.Need-note-requires Inv-loop μ-loop
 note-requires c κs =
     let told = c .before .before in
     let turn = turnAt (told .before .before) in
-    let loop = loopAt turn .loop in
-    numbers (loop .inv .0 .valid) (loop .inv .1) (acting (loop .moves) (turn .take-turn .ensures) (told .turn .given .1))
+    let inv = loopAt turn .loop .inv in
+    numbers (inv .0 .valid) (inv .1) (turn .take-turn .ensures) (told .turn .given .1) refl
 
 add-moves : tie.Need-add-moves Inv-loop μ-loop
 add-moves c =
@@ -61,16 +60,16 @@ loop-less : tie.Need-loop-less Inv-loop μ-loop
 loop-less c =
     let told = toldAt c in
     let turn = turnAt (told .before .before) in
-    let loop = loopAt turn .loop in
-    falls (loop .inv .0 .valid) (loop .inv .1) (stepping (loop .moves) (turn .take-turn .ensures) (told .turn .given .1))
+    let inv = loopAt turn .loop .inv in
+    falls (inv .0 .valid) (inv .1) (turn .take-turn .ensures) (told .turn .given .1) refl
 
 loop-again : tie.Need-loop-again Inv-loop μ-loop
 loop-again c =
     let told = toldAt c in
     let turn = turnAt (told .before .before) in
-    let loop = loopAt turn .loop in
-    let noted = notes (loop .inv .0 .valid) (loop .inv .1) (acting (loop .moves) (turn .take-turn .ensures) (told .turn .given .1)) (c .before .before .note .ensures) in
-    (loop .inv .0, runs-on (loop .inv .0 .valid) (loop .inv .1) (stepping (loop .moves) (turn .take-turn .ensures) (told .turn .given .1)) noted)
+    let inv = loopAt turn .loop .inv in
+    let noted = notes (inv .0 .valid) (inv .1) (turn .take-turn .ensures) (told .turn .given .1) refl (c .before .before .note .ensures) in
+    (inv .0, runs-on (inv .0 .valid) (inv .1) (turn .take-turn .ensures) (told .turn .given .1) refl noted)
 
 enum-told : tie.Need-enum-told Inv-loop μ-loop
 enum-told c = search needs
@@ -78,21 +77,21 @@ enum-told c = search needs
 sub-stage : tie.Need-sub-stage Inv-loop μ-loop
 sub-stage c =
     let turn = turnAt (c .before .before) in
-    let loop = loopAt turn .loop in
-    passes-down (loop .inv .0 .valid) (loop .inv .1) (stepping (loop .moves) (turn .take-turn .ensures) (c .enum-told .given .1))
+    let inv = loopAt turn .loop .inv in
+    passes-down (inv .0 .valid) (inv .1) (turn .take-turn .ensures) (c .enum-told .given .1) refl
 
 loop-less-2 : tie.Need-loop-less-2 Inv-loop μ-loop
 loop-less-2 c =
     let turn = turnAt (c .before .before) in
-    let loop = loopAt turn .loop in
-    falls (loop .inv .0 .valid) (loop .inv .1) (stepping (loop .moves) (turn .take-turn .ensures) (c .enum-told .given .1))
+    let inv = loopAt turn .loop .inv in
+    falls (inv .0 .valid) (inv .1) (turn .take-turn .ensures) (c .enum-told .given .1) refl
 
 loop-again-2 : tie.Need-loop-again-2 Inv-loop μ-loop
 unfolding handsOver
 loop-again-2 c =
     let turn = turnAt (c .before .before) in
-    let loop = loopAt turn .loop in
-    (loop .inv .0, runs-on (loop .inv .0 .valid) (loop .inv .1) (stepping (loop .moves) (turn .take-turn .ensures) (c .enum-told .given .1)) (notes-none (loop .inv .0 .valid) (loop .inv .1) (acting (loop .moves) (turn .take-turn .ensures) (c .enum-told .given .1)) refl))
+    let inv = loopAt turn .loop .inv in
+    (inv .0, runs-on (inv .0 .valid) (inv .1) (turn .take-turn .ensures) (c .enum-told .given .1) refl (notes-none (inv .0 .valid) (inv .1) (turn .take-turn .ensures) (c .enum-told .given .1) refl))
 
 enum-told-2 : tie.Need-enum-told-2 Inv-loop μ-loop
 enum-told-2 c = search needs
@@ -105,15 +104,15 @@ add-cuts c =
 loop-less-3 : tie.Need-loop-less-3 Inv-loop μ-loop
 loop-less-3 c =
     let turn = turnAt (c .before .before) in
-    let loop = loopAt turn .loop in
-    falls (loop .inv .0 .valid) (loop .inv .1) (stepping (loop .moves) (turn .take-turn .ensures) (c .enum-told2 .given .1))
+    let inv = loopAt turn .loop .inv in
+    falls (inv .0 .valid) (inv .1) (turn .take-turn .ensures) (c .enum-told2 .given .1) refl
 
 loop-again-3 : tie.Need-loop-again-3 Inv-loop μ-loop
 unfolding handsOver
 loop-again-3 c =
     let turn = turnAt (c .before .before) in
-    let loop = loopAt turn .loop in
-    (loop .inv .0, runs-on (loop .inv .0 .valid) (loop .inv .1) (stepping (loop .moves) (turn .take-turn .ensures) (c .enum-told2 .given .1)) (notes-none (loop .inv .0 .valid) (loop .inv .1) (acting (loop .moves) (turn .take-turn .ensures) (c .enum-told2 .given .1)) refl))
+    let inv = loopAt turn .loop .inv in
+    (inv .0, runs-on (inv .0 .valid) (inv .1) (turn .take-turn .ensures) (c .enum-told2 .given .1) refl (notes-none (inv .0 .valid) (inv .1) (turn .take-turn .ensures) (c .enum-told2 .given .1) refl))
 
 enum-told-3 : tie.Need-enum-told-3 Inv-loop μ-loop
 enum-told-3 c = search needs
@@ -144,8 +143,8 @@ returns : tie.Need-returns Inv-loop μ-loop
 unfolding handsOver
 returns c =
     let turn = turnAt (c .before .before) in
-    let loop = loopAt turn .loop in
-    ends-here (loop .inv .0 .valid) (loop .inv .1) (stepping (loop .moves) (turn .take-turn .ensures) (c .enum-told3 .given .1)) (notes-none (loop .inv .0 .valid) (loop .inv .1) (acting (loop .moves) (turn .take-turn .ensures) (c .enum-told3 .given .1)) refl)
+    let inv = loopAt turn .loop .inv in
+    ends-here (inv .0 .valid) (inv .1) (turn .take-turn .ensures) (c .enum-told3 .given .1) refl (notes-none (inv .0 .valid) (inv .1) (turn .take-turn .ensures) (c .enum-told3 .given .1) refl)
 
 pub run-spec : {M : Type 1} → statement M
 run-spec =
