@@ -1,9 +1,10 @@
 //! Times the proved share-out and both checks beside a plain C program's, and
 //! the share-out beside the second program's too. Estimates how long the most
-//! moves of a share-out would take.
+//! moves of a share-out would take, and times what a record adds.
 
 mod checks;
 mod most_moves;
+mod records;
 mod share_outs;
 mod sheets;
 mod timing;
@@ -22,4 +23,6 @@ fn main() {
     checks::table(&mut random);
     println!();
     most_moves::table(&mut random);
+    println!();
+    records::table(&mut random);
 }

@@ -54,6 +54,20 @@ impl Desk {
         self.by(&PROVED, sheet);
     }
 
+    /// The same with a record.
+    pub fn recorded(&mut self, sheet: &[u8], record: &mut [u8]) {
+        let Desk {
+            owners,
+            prices,
+            scratch,
+            moves,
+            cuts,
+        } = self;
+        let number =
+            compare::allocate_recorded(sheet, owners, prices, scratch, record, moves, cuts);
+        assert_eq!(number, 0);
+    }
+
     fn plain(&mut self, sheet: &[u8]) {
         self.by(&PLAIN, sheet);
     }
@@ -86,7 +100,7 @@ fn agreed(sheets: &[Vec<u8>]) -> (f64, f64) {
     (moves / COUNT as f64, cuts / COUNT as f64)
 }
 
-fn run(way: Way, sheets: &[Vec<u8>]) -> impl FnMut() + '_ {
+pub fn run(way: Way, sheets: &[Vec<u8>]) -> impl FnMut() + '_ {
     let mut desk = Desk::new();
     move || sheets.iter().for_each(|sheet| way(&mut desk, sheet))
 }
