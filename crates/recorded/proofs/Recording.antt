@@ -3,22 +3,25 @@
 use Prim.Native.Nat.{ℕ, _*_, _≤_}
 use mathlib.Core.List.{List, _++_}
 use mathlib.Core.Path.{_≡_, refl, sym, ap, subst, _∙_}
+use native.Mathlib.Omega.{arith}
 use lib.ListN.{length, drop}
 use lib.Seq.{take-at, drop-at}
-use borrow.Author.Tests.{ltb-false}
+use borrow.Author.Tests.{ltb-false, le-ltb}
+use Rattle.finite.proofs.Tests.{cond-false}
 use Rattle.model.specs.declared.ShareOut.{ShareOut}
-use Rattle.model.specs.Sheet.{asRead}
-use Rattle.model.specs.Algorithm.{Ends}
+use Rattle.model.specs.Sheet.{agentsOf, choresOf, asRead}
 use Rattle.model.specs.Record.{Move, movesIn, moveSize, recordOf}
-use Rattle.model.specs.Refusals.{sheetRefusal, allocateRefusal, recordRefusal, recordedRefusal}
+use Rattle.model.specs.MostMoves.{mostMoves}
+use Rattle.model.specs.Refusals.{allocateRefusal, recordRefusal, recordedRefusal}
 use Rattle.model.specs.Replies.{refused}
-use Rattle.model.specs.Promises.{RunMoves, Written, Recorded}
+use Rattle.model.specs.Promises.{Written, Recorded}
 use Rattle.model.proofs.Unique.{unique}
 use Rattle.records.specs.Noted.{Holding}
 use Rattle.records.proofs.Bytes.{record-length}
 use Rattle.sheet.specs.Valid.{Valid}
 use Rattle.sheet.proofs.OrElse.{or-else-zero, when-none}
 use Rattle.sheet.proofs.Refusal.{accepted}
+use Rattle.algorithm.proofs.Theorem.{few-of}
 use Rattle.algorithm.proofs.RunMoves.{moves-of, moves-are}
 use Rattle.allocation.specs.Shared.{Shared, SharedWith}
 use Rattle.allocation.proofs.Accepting.{is-fine}
@@ -31,6 +34,15 @@ counts-them {s} v S =
     let R = moves-of s .run (accepted s v) in
     let E = S .ended .ends in
     sym (R .count ∙ ap (λ y. y .moves) (unique (asRead s) (R .ends .steps) (E .steps) (R .final) _ (R .ends .ends) (E .ends)))
+
+-- room for the most moves is room for them
+pub most-fit : {s : List ℕ} {most : ℕ} (bytes : ℕ) → Valid s → most ≡ mostMoves (agentsOf s) (choresOf s) → recordRefusal most bytes ≡ 0 → recordRefusal (length (movesFor s)) bytes ≡ 0
+unfolding recordRefusal movesFor
+most-fit {s} {most} bytes v is e =
+    let valid = accepted s v in
+    let R = moves-of s .run valid in
+    let room = ltb-false bytes (moveSize * most) (when-none _ 10 e) in
+    cond-false _ _ (le-ltb bytes (moveSize * length (moves-of s .moves)) (omega (arith, room, is, R .count, few-of s valid (R .final) (R .ends) .inAll)))
 
 -- the moves fit, so they stand first and the rest is kept
 written : {moves : List Move} {lent bytes : List ℕ} → moveSize * length moves ≤ length lent → Holding moves lent bytes → Written moves lent bytes

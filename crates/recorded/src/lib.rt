@@ -2,6 +2,8 @@
 ghost use mathlib.Core.Path.{_≡_};
 ghost use lib.ListN.{length};
 ghost use Rattle.model.specs.Limits.{maxChores};
+ghost use Rattle.model.specs.Sheet.{agentsOf, choresOf};
+ghost use Rattle.model.specs.MostMoves.{mostMoves};
 ghost use Rattle.model.specs.Refusals.{recordedRefusal};
 ghost use Rattle.model.specs.Promises.{Recorded};
 ghost use Rattle.sheet.specs.Valid.{Valid};
@@ -33,13 +35,27 @@ fn count_moves(sheet: &[u8]) -> u64
     counts.moves
 }
 
-// The number that a share-out with a record is turned down with, 0 where it is not.
+// No run takes more.
+fn most_moves(sheet: &[u8]) -> u64
+    requires { ⌜ Valid (now sheet) ⌝ }
+    ensures { λ r. ⌜ r ≡ mostMoves (agentsOf (now (sheet .entry))) (choresOf (now (sheet .entry))) ⌝ }
+{
+    let n = sheet::agents(sheet);
+    let m = sheet::chores(sheet);
+    (n * ((n - 1) * m)) as u64
+}
+
+// The number that a share-out with a record is turned down with, 0 where it is not. Where there is room for the most moves, none are counted.
 fn recorded_refusal(sheet: &[u8], owners: usize, prices: usize, scratch: usize, bytes: usize) -> u8
     ensures { λ r. ⌜ r ≡ recordedRefusal (now (sheet .entry)) owners prices scratch (length (movesFor (now (sheet .entry)))) bytes ⌝ }
 {
     let refusal = allocation::allocate_refusal(sheet, owners, prices, scratch);
     if refusal != 0 {
         return refusal;
+    }
+    let of_most = records::record_refusal(most_moves(sheet), bytes);
+    if of_most == 0 {
+        return 0;
     }
     let moves = count_moves(sheet);
     records::record_refusal(moves, bytes)
