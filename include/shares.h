@@ -80,7 +80,7 @@ extern "C" {
 
 /* The most stack that each call takes, in bytes, on x86-64. */
 #define SHARES_STACK_ALLOCATE 3072
-#define SHARES_STACK_ALLOCATE_RECORDED 4272
+#define SHARES_STACK_ALLOCATE_RECORDED 4096
 #define SHARES_STACK_CHECK_LIST 512
 #define SHARES_STACK_CHECK_PRICES 2048
 #define SHARES_STACK_FIND_SHEET 512
@@ -123,7 +123,9 @@ uint8_t shares_allocate(const uint8_t *sheet, size_t sheet_len,
 /* Shares out a sheet as shares_allocate does, and records every move.
  *
  * Lent: as for shares_allocate, and record, at least 6 bytes for each move that
- * the run makes. SHARES_MOVE_BYTES * SHARES_MOST_MOVES(n, m) are always enough.
+ * the run makes. SHARES_MOVE_BYTES * SHARES_MOST_MOVES(n, m) are always enough;
+ * with fewer the run is worked twice, since nothing lent is written before the
+ * moves are known to fit.
  * Returns 0: owners, prices, scratch, *moves and *cuts are as shares_allocate
  * leaves them. The first 6 * *moves bytes of the record are written, and the rest
  * of it is kept. They are the moves in the order made, six bytes each:
