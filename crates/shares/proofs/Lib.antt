@@ -1,4 +1,2 @@
-pub mod Decimal
-pub mod Putting
 pub mod Reading
 pub mod Sample

@@ -22,10 +22,12 @@ use Rattle.model.specs.Replies.{sheetReply}
 use Rattle.model.specs.Book.{sheetAnswer}
 use Rattle.model.specs.Promises.{entryAt, BookAllocated}
 use Rattle.book.proofs.Answers.{shared-answer, never-absent, refused-answer, taken-valid, stretch-inside, refusal-is, not-refused, refusal-fits, contents-decide, owners-there, prices-there}
-use Rattle.shares.specs.Page.{sharedLines, refusedLine, bookRefusedLine, totalLine, sheetText, sheetsText, bookText}
-use Rattle.shares.specs.Put.{sheetMost, sheetRoom, sheetsMost, pageRoom, Put, Wide}
+use Rattle.text.specs.Put.{Put}
+use Rattle.text.specs.Lines.{refusedLine, bookRefusedLine, totalLine}
+use Rattle.text.proofs.Putting.{put-nothing, put-then, put-more}
+use Rattle.shares.specs.Page.{sharedLines, sheetText, sheetsText, bookText}
+use Rattle.shares.specs.Room.{sheetMost, sheetRoom, sheetsMost, pageRoom, Wide}
 use Rattle.shares.specs.Answered.{answerAt, isShared, firstOf, answerText, answersText, Readable, Handed, Allotted, Passed, Paged}
-use Rattle.shares.proofs.Putting.{put-nothing, put-then, put-more}
 
 counted : (r : ℕ) (out : List ℕ) → r ≤ length out → Counts r out
 counted r out l = (l, sym (length-take-le r out l))

@@ -2,8 +2,9 @@
 -- Assumes nothing.
 use mathlib.Core.List.{[], _∷_, _++_}
 use mathlib.Core.Path.{_≡_, refl}
-use Rattle.shares.specs.Text.{ascii, digitsIn, decimal, field, spaced}
-use Rattle.shares.specs.Page.{sheetLine, ownersLine, pricesLine, sharedLines, refusedLine, bookRefusedLine, totalLine}
+use Rattle.text.specs.Text.{ascii, digitsIn, decimal, field, spaced}
+use Rattle.text.specs.Lines.{sheetLine, ownersLine, pricesLine, totalLine}
+use Rattle.shares.specs.Page.{sharedLines}
 
 -- "For a book that holds only sheet C"
 pub sheet-c : sharedLines 1 3 1 (2 ∷ 2 ∷ 1 ∷ 1 ∷ 2 ∷ []) (3 ∷ 3 ∷ 3 ∷ 3 ∷ 1 ∷ []) ++ totalLine 3 1 ≡ ascii "sheet 1 moves 3 cuts 1\nowners 2 2 1 1 2\nprices 3 3 3 3 1\ntotal moves 3 cuts 1\n"
@@ -13,15 +14,3 @@ sheet-c = refl
 pub no-chores : sharedLines 16 0 0 [] [] ≡ ascii "sheet 16 moves 0 cuts 0\nowners\nprices\n"
 unfolding digitsIn decimal field spaced sheetLine ownersLine pricesLine sharedLines
 no-chores = refl
-
-pub a-refused-sheet : refusedLine 2 4 ≡ ascii "sheet 2 refused 4\n"
-unfolding digitsIn decimal field refusedLine
-a-refused-sheet = refl
-
-pub a-refused-book : bookRefusedLine 9 ≡ ascii "book refused 9\n"
-unfolding digitsIn decimal field bookRefusedLine
-a-refused-book = refl
-
-pub zeros-inside : decimal 1002 ≡ ascii "1002"
-unfolding digitsIn decimal
-zeros-inside = refl

@@ -13,8 +13,10 @@ use Rattle.model.specs.Sheet.{headerSize, choresOf}
 use Rattle.model.specs.Contents.{sheetCount, sheetOf}
 use Rattle.model.specs.Promises.{BookSharedOut, BookAllocated}
 use Rattle.contents.specs.Fits.{Fits}
-use Rattle.shares.specs.Page.{sharedLines, refusedLine, Printed}
-use Rattle.shares.specs.Put.{sheetMost, Put}
+use Rattle.text.specs.Put.{Put}
+use Rattle.text.specs.Lines.{refusedLine}
+use Rattle.shares.specs.Page.{sharedLines, Printed}
+use Rattle.shares.specs.Room.{sheetMost}
 
 -- the answer that a list of entries has for sheet j
 abbrev pub answerAt : List SheetEntry → ℕ → SheetResult

@@ -1,6 +1,3 @@
-pub mod Text
 pub mod Page
-pub mod Put
+pub mod Room
 pub mod Answered
-pub mod Arguments
-pub mod Input

@@ -1,11 +1,31 @@
 // The text of a whole book: one buffer holds it, whatever the book, so that it is written by one call.
-use crate::lines;
+use text::lines;
 ghost use Prim.Native.Nat.{_+_, _≤_};
 ghost use mathlib.Core.Path.{_≡_};
 ghost use lib.ListN.{length};
 ghost use Rattle.model.specs.Limits.{scratchSize, bookEntries};
-ghost use Rattle.shares.specs.Put.{sheetMost, sheetRoom, sheetsMost, pageRoom, Put};
+ghost use Rattle.text.specs.Put.{Put};
+ghost use Rattle.shares.specs.Page.{sharedLines};
+ghost use Rattle.shares.specs.Room.{sheetMost, sheetRoom, sheetsMost, pageRoom, Wide};
 ghost use Rattle.shares.specs.Answered.{answerText, answersText, Readable, Handed, Allotted, Paged};
+
+// The three lines of an accepted sheet.
+fn shared_lines(
+    number: u64,
+    moves: u64,
+    cuts: u64,
+    owners: &[u8],
+    prices: &[u32],
+    out: &mut [u8],
+    at: usize,
+) -> usize
+    requires { ⌜ Wide (now owners) (now prices) (now out) at ⌝ }
+    ensures { λ r. ⌜ Put sheetMost (sharedLines number moves cuts (now (owners .entry)) (now (prices .entry))) (now (out .entry)) at (now (out .exit)) r ⌝ }
+{
+    let a = lines::sheet_line(number, moves, cuts, out, at);
+    let b = lines::owners_line(owners, out, a);
+    lines::prices_line(prices, out, b)
+}
 
 // The lines of sheet `j`, counted from 0 and numbered from 1.
 fn sheet_text(
@@ -31,7 +51,7 @@ fn sheet_text(
             let end = first + sheet::chores(contents::sheet_at(book, j));
             let of_owners = &owners[first..end];
             let of_prices = &prices[first..end];
-            lines::shared_lines(number, moves, cuts as u64, of_owners, of_prices, out, at)
+            shared_lines(number, moves, cuts as u64, of_owners, of_prices, out, at)
         }
     }
 }

@@ -1,0 +1,42 @@
+// What a program's arguments ask for.
+ghost use Rattle.program.specs.Arguments.{Asks};
+
+pub enum Asked {
+    // No word: the program's own work.
+    Run,
+    Help,
+    Version,
+    // A word that is none of these, or more than one.
+    Unknown,
+}
+
+fn asked_by(word: &[u8]) -> Asked
+    ensures { λ r. ⌜ Asks (now (word .entry)) r ⌝ }
+{
+    if check::same(word, b"--help") {
+        return Asked::Help;
+    }
+    if check::same(word, b"-h") {
+        return Asked::Help;
+    }
+    if check::same(word, b"--version") {
+        return Asked::Version;
+    }
+    Asked::Unknown
+}
+
+// A word that is longer than the buffer is read as one of no bytes, which is not known either.
+fn asked_by_first() -> Asked {
+    let mut word = [0u8; 16];
+    let n = os::arg(1, &mut word);
+    asked_by(&word[..n])
+}
+
+// The program's own name counts as an argument.
+pub fn what_is_asked() -> Asked {
+    match os::arg_count() {
+        0 | 1 => Asked::Run,
+        2 => asked_by_first(),
+        _ => Asked::Unknown,
+    }
+}

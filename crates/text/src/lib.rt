@@ -1,0 +1,3 @@
+// The text of the programs, in a lent buffer: words and numbers, and the lines made of them.
+pub mod lines;
+pub mod words;
