@@ -2,7 +2,7 @@
 use crate::words;
 ghost use Prim.Native.Nat.{_+_, _*_, _≤_};
 ghost use lib.ListN.{length};
-ghost use Rattle.text.specs.Lines.{sheetLine, ownersLine, pricesLine, refusedLine, bookRefusedLine, totalLine};
+ghost use Rattle.text.specs.Lines.{sheetLine, listLine, ownersLine, pricesLine, openingLine, refusedLine, bookRefusedLine, totalLine};
 ghost use Rattle.text.specs.Put.{Put};
 
 pub fn sheet_line(number: u64, moves: u64, cuts: u64, out: &mut [u8], at: usize) -> usize
@@ -15,13 +15,28 @@ pub fn sheet_line(number: u64, moves: u64, cuts: u64, out: &mut [u8], at: usize)
     words::end_line(out, c)
 }
 
+// A word, and an agent's number for each chore.
+fn agents_line(word: &[u8], agents: &[u8], out: &mut [u8], at: usize) -> usize
+    requires { ⌜ at + length (now word) + 4 * length (now agents) + 21 ≤ length (now out) ⌝ }
+    ensures { λ r. ⌜ Put (length (now (word .entry)) + 4 * length (now (agents .entry)) + 1) (listLine (now (word .entry)) (now (agents .entry))) (now (out .entry)) at (now (out .exit)) r ⌝ }
+{
+    let a = words::word(word, out, at);
+    let b = words::spaced_u8(agents, out, a);
+    words::end_line(out, b)
+}
+
 pub fn owners_line(owners: &[u8], out: &mut [u8], at: usize) -> usize
     requires { ⌜ at + 4 * length (now owners) + 27 ≤ length (now out) ⌝ }
     ensures { λ r. ⌜ Put (4 * length (now (owners .entry)) + 7) (ownersLine (now (owners .entry))) (now (out .entry)) at (now (out .exit)) r ⌝ }
 {
-    let a = words::word(b"owners", out, at);
-    let b = words::spaced_u8(owners, out, a);
-    words::end_line(out, b)
+    agents_line(b"owners", owners, out, at)
+}
+
+pub fn opening_line(owners: &[u8], out: &mut [u8], at: usize) -> usize
+    requires { ⌜ at + 4 * length (now owners) + 28 ≤ length (now out) ⌝ }
+    ensures { λ r. ⌜ Put (4 * length (now (owners .entry)) + 8) (openingLine (now (owners .entry))) (now (out .entry)) at (now (out .exit)) r ⌝ }
+{
+    agents_line(b"opening", owners, out, at)
 }
 
 pub fn prices_line(prices: &[u32], out: &mut [u8], at: usize) -> usize

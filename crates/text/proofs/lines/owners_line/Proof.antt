@@ -1,38 +1,25 @@
--- `text::lines::owners_line` meets its contract: what it adds, one after the other, is the line.
+-- `text::lines::owners_line` meets its contract: the line of its word.
 -- Assumes nothing.
 use native.Mathlib.Omega.{arith}
 use borrow.Author.Needs.{needs}
 use Rattle.text.specs.Lines.{ownersLine}
-use Rattle.text.proofs.Putting.{put-then, put-more}
+use Rattle.text.proofs.Putting.{put-more}
 use Rattle.text.proofs.lines.owners_line.Statement.{statement}
 use Rattle.text.proofs.lines.owners_line.Tie as tie
 
-slice-aggregate-word : tie.Need-slice-aggregate-word
-slice-aggregate-word c = search needs
+slice-aggregate-agents-line : tie.Need-slice-aggregate-agents-line
+slice-aggregate-agents-line c = search needs
 
-word-requires : tie.Need-word-requires
-word-requires c κs = search needs
-
-spaced-u8-requires : tie.Need-spaced-u8-requires
-spaced-u8-requires c κs = search needs
-
-end-line-requires : tie.Need-end-line-requires
-end-line-requires c κs = search needs
+agents-line-requires : tie.Need-agents-line-requires
+agents-line-requires c κs = search needs
 
 same-length : tie.Need-same-length
 same-length c = search needs
 
 returns : tie.Need-returns
 unfolding ownersLine
-returns c = put-more (put-then (put-then (c .before .before .before .before .before .before .before .before .before .before .word .ensures) (c .before .before .before .before .before .before .spaced-u8 .ensures)) (c .before .before .end-line .ensures)) (omega arith)
+returns c = put-more (c .before .before .agents-line .ensures) (omega arith)
 
 pub owners-line-spec : {M : Type 1} → statement M
 owners-line-spec =
-    tie.close
-    (tie.spec
-    slice-aggregate-word
-    word-requires
-    spaced-u8-requires
-    end-line-requires
-    same-length
-    returns)
+    tie.close (tie.spec slice-aggregate-agents-line agents-line-requires same-length returns)

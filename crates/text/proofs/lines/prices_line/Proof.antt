@@ -2,7 +2,7 @@
 -- Assumes nothing.
 use native.Mathlib.Omega.{arith}
 use borrow.Author.Needs.{needs}
-use Rattle.text.specs.Lines.{pricesLine}
+use Rattle.text.specs.Lines.{listLine, pricesLine}
 use Rattle.text.proofs.Putting.{put-then, put-more}
 use Rattle.text.proofs.lines.prices_line.Statement.{statement}
 use Rattle.text.proofs.lines.prices_line.Tie as tie
@@ -23,7 +23,7 @@ same-length : tie.Need-same-length
 same-length c = search needs
 
 returns : tie.Need-returns
-unfolding pricesLine
+unfolding pricesLine listLine
 returns c = put-more (put-then (put-then (c .before .before .before .before .before .before .before .before .before .before .word .ensures) (c .before .before .before .before .before .before .spaced-u32 .ensures)) (c .before .before .end-line .ensures)) (omega arith)
 
 pub prices-line-spec : {M : Type 1} → statement M
