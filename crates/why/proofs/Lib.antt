@@ -1,0 +1,4 @@
+pub mod Telling
+pub mod Answering
+pub mod Printing
+pub mod Sample

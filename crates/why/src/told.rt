@@ -1,0 +1,138 @@
+// The text of one sheet, from what its share-out answered and left in the lists lent to it.
+use market::opening::open;
+use text::lines;
+use text::moves;
+ghost use Prim.Native.Nat.{_≤_};
+ghost use mathlib.Core.Path.{_≡_};
+ghost use lib.ListN.{length};
+ghost use Rattle.model.specs.Limits.{maxChores};
+ghost use Rattle.model.specs.Sheet.{asRead};
+ghost use Rattle.model.specs.Algorithm.{opening};
+ghost use Rattle.text.specs.Put.{Put};
+ghost use Rattle.why.specs.Told.{textMost, textRoom, textOf, Wide, PutRun, Opening, Left, Answered, Openable};
+
+// Each list is made by a function of its own, whose contract tells its length and spares the callers its entries.
+pub fn no_owners() -> [u8; model::MAX_CHORES]
+    ensures { λ r. ⌜ maxChores ≡ length r ⌝ }
+{
+    [0; model::MAX_CHORES]
+}
+
+pub fn no_prices() -> [u32; model::MAX_CHORES]
+    ensures { λ r. ⌜ maxChores ≡ length r ⌝ }
+{
+    [0; model::MAX_CHORES]
+}
+
+// The opening list. Its prices, and who likes what, are left here.
+fn opening_owners(sheet: &[u8], owners: &mut [u8])
+    requires { ⌜ Openable (now sheet) (now owners) ⌝ }
+    ensures { λ _. ⌜ now (owners .exit) ≡ opening (asRead (now (sheet .entry))) .owners ⌝ }
+{
+    let n = sheet::agents(sheet);
+    let m = sheet::chores(sheet);
+    let mut prices = no_prices();
+    let mut likes = no_prices();
+    open(sheet, n, m, owners, &mut prices[0..m], &mut likes[0..m]);
+}
+
+fn run_lines(
+    number: u64,
+    count: u64,
+    cuts: u64,
+    opened: &[u8],
+    bytes: &[u8],
+    owners: &[u8],
+    prices: &[u32],
+    out: &mut [u8],
+) -> usize
+    requires { ⌜ Wide (now opened) (now bytes) (now owners) (now prices) (now out) ⌝ }
+    ensures { λ r. ⌜ PutRun number count cuts (now (opened .entry)) (now (bytes .entry)) (now (owners .entry)) (now (prices .entry)) (now (out .entry)) (now (out .exit)) r ⌝ }
+{
+    let a = lines::sheet_line(number, count, cuts, out, 0);
+    let b = lines::opening_line(opened, out, a);
+    let c = moves::moves_text(bytes, out, b);
+    let d = lines::owners_line(owners, out, c);
+    lines::prices_line(prices, out, d)
+}
+
+// The opening list goes into `opened`.
+fn opened_text(
+    sheet: &[u8],
+    number: u64,
+    count: u64,
+    cuts: u64,
+    owners: &[u8],
+    prices: &[u32],
+    bytes: &[u8],
+    opened: &mut [u8],
+    out: &mut [u8],
+) -> usize
+    requires { ⌜ Opening (now sheet) count cuts (now owners) (now prices) (now bytes) (now opened) ⌝ }
+    requires { ⌜ textRoom ≤ length (now out) ⌝ }
+    ensures { λ r. ⌜ Put textMost (textOf (now (sheet .entry)) number) (now (out .entry)) 0 (now (out .exit)) r ⌝ }
+{
+    opening_owners(sheet, opened);
+    run_lines(number, count, cuts, opened, bytes, owners, prices, out)
+}
+
+// An accepted sheet: its entries stand first in the lists, and its moves in the record.
+fn shared_text(
+    sheet: &[u8],
+    number: u64,
+    count: u64,
+    cuts: u64,
+    owners: &[u8],
+    prices: &[u32],
+    bytes: &[u8],
+    out: &mut [u8],
+) -> usize
+    requires { ⌜ Left (now sheet) count cuts (now owners) (now prices) (now bytes) ⌝ }
+    requires { ⌜ textRoom ≤ length (now out) ⌝ }
+    ensures { λ r. ⌜ Put textMost (textOf (now (sheet .entry)) number) (now (out .entry)) 0 (now (out .exit)) r ⌝ }
+{
+    let m = sheet::chores(sheet);
+    let end = model::MOVE_SIZE * count as usize;
+    let mut opened = no_owners();
+    opened_text(
+        sheet,
+        number,
+        count,
+        cuts,
+        &owners[0..m],
+        &prices[0..m],
+        &bytes[0..end],
+        &mut opened[0..m],
+        out,
+    )
+}
+
+pub fn answer_text(
+    sheet: &[u8],
+    number: u64,
+    answer: model::ShareOut,
+    owners: &[u8],
+    prices: &[u32],
+    bytes: &[u8],
+    out: &mut [u8],
+) -> usize
+    requires { ⌜ Answered (now sheet) (now owners) (now prices) (now bytes) answer ⌝ }
+    requires { ⌜ textRoom ≤ length (now out) ⌝ }
+    ensures { λ r. ⌜ Put textMost (textOf (now (sheet .entry)) number) (now (out .entry)) 0 (now (out .exit)) r ⌝ }
+{
+    match answer {
+        model::ShareOut::Refused(refusal) => lines::refused_line(number, refusal as u64, out, 0),
+        model::ShareOut::Shared { moves, cuts } => {
+            shared_text(
+                sheet,
+                number,
+                moves,
+                cuts as u64,
+                owners,
+                prices,
+                bytes,
+                out,
+            )
+        }
+    }
+}
