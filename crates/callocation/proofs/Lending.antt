@@ -22,7 +22,7 @@ use Rattle.pricebytes.specs.PriceBytes.{pricesIn, bytesOf, withPrices}
 use Rattle.pricebytes.proofs.Reading.{prices-count}
 use Rattle.pricebytes.proofs.Writing.{bytes-length, with-first}
 use Rattle.pricebytes.proofs.Again.{read-back}
-use Rattle.cmodel.specs.Numbers.{refusalIn, Told}
+use Rattle.cmodel.specs.Numbers.{refusalIn}
 use Rattle.cmodel.specs.Promises.{priceCheckInC, AllocatedInC}
 use Rattle.cmodel.proofs.PriceChecks.{whole}
 use Rattle.cmodel.proofs.Lent.{lent-same}

@@ -10,7 +10,7 @@ use borrow.Author.Tests.{ltb-false, le-ltb}
 use Rattle.finite.proofs.Tests.{cond-false}
 use Rattle.model.specs.declared.ShareOut.{ShareOut}
 use Rattle.model.specs.Sheet.{agentsOf, choresOf, asRead}
-use Rattle.model.specs.Record.{Move, movesIn, moveSize, recordOf}
+use Rattle.model.specs.Record.{Move, moveSize, recordOf}
 use Rattle.model.specs.MostMoves.{mostMoves}
 use Rattle.model.specs.Refusals.{allocateRefusal, recordRefusal, recordedRefusal}
 use Rattle.model.specs.Replies.{refused}

@@ -1,6 +1,5 @@
 -- `callocation::allocate_recorded_with` meets its contract, as `allocate_with` does.
-use Prim.Native.Nat.{_/_, _≤_, min}
-use mathlib.Core.List.{_++_}
+use Prim.Native.Nat.{_≤_}
 use mathlib.Core.Path.{sym}
 use native.Mathlib.Omega.{arith}
 use lib.ListN.{length, take, drop, length-take}

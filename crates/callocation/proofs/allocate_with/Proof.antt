@@ -1,7 +1,6 @@
 -- `callocation::allocate_with` meets its contract: the numbers lent are those that the bytes hold, MAX_CHORES at most; what comes back is told
 -- by the laws of `Lending`.
-use Prim.Native.Nat.{_/_, _≤_, min}
-use mathlib.Core.List.{_++_}
+use Prim.Native.Nat.{_≤_}
 use mathlib.Core.Path.{sym}
 use native.Mathlib.Omega.{arith}
 use lib.ListN.{length, take, drop, length-take}
