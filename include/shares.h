@@ -45,10 +45,10 @@ extern "C" {
 #endif
 
 /* The release that this header is of. */
-#define SHARES_VERSION "6.2.4"
+#define SHARES_VERSION "6.2.5"
 #define SHARES_VERSION_MAJOR 6
 #define SHARES_VERSION_MINOR 2
-#define SHARES_VERSION_PATCH 4
+#define SHARES_VERSION_PATCH 5
 
 /* Limits: 1 to 32 agents, 0 to 200 chores, 1 <= a < b <= 1,000. */
 #define SHARES_MAX_AGENTS 32
