@@ -2,6 +2,7 @@
 //! moves, cuts, the record and all lent memory; and against the share-out
 //! without a record.
 
+use compare::bound::most_moves;
 use compare::lent::{assert_all_hold, enough, short, Lengths, Lent};
 use compare::random::{damaged, Random};
 use compare::{allocate_recorded, shapes, PROVED};
@@ -73,10 +74,11 @@ fn assert_same_without(sheet: &[u8], lent: &[Lent<u8>; 4], held: Counts, got: To
     }
 }
 
-/// Exact, a byte short, longer, and none.
-fn record_lengths(random: &mut Random, exact: usize) -> [usize; 4] {
+/// Exact, a byte short, longer, none, and room for the most moves, or for 500.
+fn record_lengths(random: &mut Random, exact: usize, most: u64) -> [usize; 5] {
     let longer = exact + 1 + random.below(3 * MOVE_BYTES);
-    [exact, exact.saturating_sub(1), longer, 0]
+    let room = MOVE_BYTES * most.min(500) as usize;
+    [exact, exact.saturating_sub(1), longer, 0, room]
 }
 
 /// How many sheets took a move, the most moves and the last round of any, and
@@ -108,7 +110,7 @@ fn records_of_every_length() {
         let sheet = shapes::any_sheet(&mut random);
         let recorded = record::work(&Sheet::parse(&sheet).expect("the sheet keeps the rules"));
         let exact = recorded.record.len();
-        for length in record_lengths(&mut random, exact) {
+        for length in record_lengths(&mut random, exact, most_moves(&sheet)) {
             let work = |_: &Sheet| recorded.clone();
             let lengths = enough(&mut random, usize::from(sheet[1]));
             let number = compared(&mut random, work, &sheet, lengths, length);
@@ -144,8 +146,10 @@ fn faults_one_and_several() {
         }
         let chores = sheet.get(1).copied().map_or(0, usize::from);
         let lengths = some_lengths(&mut random, chores);
-        let exact = Sheet::parse(&sheet).map_or(0, |sheet| record::work(&sheet).record.len());
-        let length = record_lengths(&mut random, exact)[random.below(4)];
+        let (exact, most) = Sheet::parse(&sheet).map_or((0, 0), |parsed| {
+            (record::work(&parsed).record.len(), most_moves(&sheet))
+        });
+        let length = record_lengths(&mut random, exact, most)[random.below(5)];
         let number = compared(&mut random, record::work, &sheet, lengths, length);
         numbers[usize::from(number)] += 1;
         // A short list is found before a short record.
