@@ -6,7 +6,7 @@ use mathlib.Core.Path.{_≡_, refl, sym, ap, subst, _∙_}
 use native.Mathlib.Omega.{arith}
 use lib.ListN.{length, drop}
 use lib.Seq.{take-at, drop-at}
-use borrow.Author.Tests.{ltb-false, le-ltb}
+use borrow.Author.Tests.{le-ltb}
 use Rattle.finite.proofs.Tests.{cond-false}
 use Rattle.model.specs.declared.ShareOut.{ShareOut}
 use Rattle.model.specs.Sheet.{agentsOf, choresOf, asRead}
@@ -19,8 +19,8 @@ use Rattle.model.proofs.Unique.{unique}
 use Rattle.records.specs.Noted.{Holding}
 use Rattle.records.proofs.Bytes.{record-length}
 use Rattle.sheet.specs.Valid.{Valid}
-use Rattle.sheet.proofs.OrElse.{or-else-zero, when-none}
-use Rattle.sheet.proofs.Refusal.{accepted}
+use Rattle.sheet.proofs.OrElse.{or-else-zero}
+use Rattle.sheet.proofs.Refusal.{accepted, record-room}
 use Rattle.algorithm.proofs.Theorem.{few-of}
 use Rattle.algorithm.proofs.RunMoves.{moves-of, moves-are}
 use Rattle.allocation.specs.Shared.{Shared, SharedWith}
@@ -41,7 +41,7 @@ unfolding recordRefusal movesFor
 most-fit {s} {most} bytes v is e =
     let valid = accepted s v in
     let R = moves-of s .run valid in
-    let room = ltb-false bytes (moveSize * most) (when-none _ 10 e) in
+    let room = record-room most bytes e in
     cond-false _ _ (le-ltb bytes (moveSize * length (moves-of s .moves)) (omega (arith, room, is, R .count, few-of s valid (R .final) (R .ends) .inAll)))
 
 -- the moves fit, so they stand first and the rest is kept
@@ -60,10 +60,10 @@ refusal s owners prices scratch lent =
 
 -- what a refusal number of 0 gives
 pub taken : (s : List ℕ) (owners prices scratch bytes : ℕ) → recordedRefusal s owners prices scratch (length (movesFor s)) bytes ≡ 0 → (allocateRefusal s owners prices scratch ≡ 0) × (moveSize * length (movesFor s) ≤ bytes)
-unfolding recordedRefusal recordRefusal
+unfolding recordedRefusal
 taken s owners prices scratch bytes e =
     let both = or-else-zero (allocateRefusal s owners prices scratch) (recordRefusal (length (movesFor s)) bytes) e in
-    (both .0, ltb-false bytes (moveSize * length (movesFor s)) (when-none _ 10 (both .1)))
+    (both .0, record-room (length (movesFor s)) bytes (both .1))
 
 module _ {s owners prices scratch lent : List ℕ} where
   pub refused-kept : {k : ℕ} → k ≡ refusal s owners prices scratch lent → (k ≡ 0 → ⊥) → Recorded s owners prices scratch lent owners prices scratch lent (ShareOut.Refused k)

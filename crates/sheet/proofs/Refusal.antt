@@ -13,7 +13,8 @@ use Rattle.finite.proofs.Tests.{or-none, or-none-intro, not-off}
 use Rattle.finite.proofs.Search.{any-none, any-none-intro}
 use Rattle.model.specs.Limits.{maxChores, maxWeight}
 use Rattle.model.specs.Sheet.{headerSize, agentsOf, choresOf, easyWeight, difficultWeight, sheetLength, markAt}
-use Rattle.model.specs.Refusals.{_orElse_, outOfRange, weightsFault, isMark, marksFault, headerRefusal, sheetRefusal, lentRefusal}
+use Rattle.model.specs.Record.{moveSize}
+use Rattle.model.specs.Refusals.{_orElse_, outOfRange, weightsFault, isMark, marksFault, headerRefusal, sheetRefusal, lentRefusal, recordRefusal}
 use Rattle.sheet.specs.Valid.{Valid}
 use Rattle.sheet.proofs.OrElse.{or-else-zero, when-none, peel}
 
@@ -97,6 +98,11 @@ accepted s v =
 pub lent-room : {needed lent : ℕ} → lentRefusal needed lent ≡ 0 → needed ≤ lent
 unfolding lentRefusal
 lent-room {needed} {lent} e = ltb-false lent needed (when-none _ 7 e)
+
+-- and refusal 11 of 0 that the moves fit
+pub record-room : (moves bytes : ℕ) → recordRefusal moves bytes ≡ 0 → moveSize * moves ≤ bytes
+unfolding recordRefusal
+record-room moves bytes e = ltb-false bytes (moveSize * moves) (when-none _ 10 e)
 
 pub lent-ok : {needed lent : ℕ} → needed ≤ lent → lentRefusal needed lent ≡ 0
 unfolding lentRefusal

@@ -6,7 +6,6 @@ use mathlib.Core.Path.{_≡_, sym, ap, _∙_}
 use native.Mathlib.Omega.{arith}
 use lib.ListN.{length, take}
 use lib.Seq.{length-take-le}
-use borrow.Author.Tests.{ltb-false}
 use Rattle.finite.proofs.Below.{by-same}
 use Rattle.model.specs.declared.ShareOut.{ShareOut}
 use Rattle.model.specs.Limits.{maxChores, scratchSize}
@@ -16,8 +15,8 @@ use Rattle.model.specs.Record.{Move, moveSize, recordOf}
 use Rattle.model.specs.Refusals.{_orElse_, sheetRefusal, allocateRefusal, recordRefusal, recordedRefusal}
 use Rattle.model.specs.Replies.{shareOutReply, refused, shared}
 use Rattle.model.specs.Promises.{RunMoves, SharedOut, Recorded}
-use Rattle.sheet.proofs.OrElse.{or-else-next, or-else-first, or-else-none, or-else-zero, when-none}
-use Rattle.sheet.proofs.Refusal.{valid, lent-ok}
+use Rattle.sheet.proofs.OrElse.{or-else-next, or-else-first, or-else-none, or-else-zero}
+use Rattle.sheet.proofs.Refusal.{valid, lent-ok, record-room}
 use Rattle.allocation.specs.Final.{finalOf}
 use Rattle.allocation.proofs.Final.{final-demand3}
 use Rattle.algorithm.proofs.RunMoves.{moves-are}
@@ -51,11 +50,6 @@ module _ (s : List ℕ) (moves : List Move) (run : sheetRefusal s ≡ 0 → RunM
       by-same (sheetRefusal s) 0
       (λ z. ap (λ a. a orElse recordRefusal (length moves) recordSize) (allocate-is s) ∙ ap (λ ms. sheetRefusal s orElse recordRefusal (length ms) recordSize) (moves-same z))
       (λ h. ap (λ a. a orElse recordRefusal (length moves) recordSize) (allocate-is s) ∙ or-else-first _ h ∙ sym (or-else-first _ h))
-
--- 0 for the record: the moves fit
-record-room : (moves bytes : ℕ) → recordRefusal moves bytes ≡ 0 → moveSize * moves ≤ bytes
-unfolding recordRefusal
-record-room moves bytes e = ltb-false bytes (moveSize * moves) (when-none _ _ e)
 
 module _ (s : List ℕ) (z : sheetRefusal s ≡ 0) where
   -- Algorithm 1 ends in one state
