@@ -67,7 +67,7 @@ pub record NothingWritten (owners prices scratch bytes owners′ prices′ scrat
 
 -- The share-out with a record of its moves.
 pub record RecordedInC (s owners prices scratch bytes owners′ prices′ scratch′ bytes′ : List ℕ) (moves cuts moves′ cuts′ r : ℕ) : Type 0 where
-  -- the moves of the run on a sheet that breaks no rule
+  -- as in `Recorded`
   pub made : List Move
   pub run : sheetRefusal s ≡ 0 → RunMoves s made
   pub answer : r ≡ recordedRefusal s (length owners) (length (pricesIn prices)) (length scratch) (length made) (length bytes)

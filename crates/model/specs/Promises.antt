@@ -106,6 +106,7 @@ pub record Written (moves : List Move) (bytes bytes′ : List ℕ) : Type 0 wher
 
 -- The share-out with a record of its moves: `allocate_recorded(sheet, owners, prices, scratch, record)`.
 pub record Recorded (s owners prices scratch bytes owners′ prices′ scratch′ bytes′ : List ℕ) (r : ShareOut) : Type 0 where
+  -- a sheet that breaks no rule has its run; another is refused whatever the moves
   pub moves : List Move
   pub run : sheetRefusal s ≡ 0 → RunMoves s moves
   -- "What was promised for the share-out without a record holds with one."
