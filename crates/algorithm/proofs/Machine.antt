@@ -18,13 +18,13 @@ use Rattle.model.specs.Step2a.{receiver2a, due2a, chore2a}
 use Rattle.model.specs.Step2b.{leastSum, above, reachable, due2b, receiver2b, chore2b}
 use Rattle.model.specs.Algorithm.{State, Action, hand, pass, cut, stop, lack, busy, done, owner, price, group, isEntitled, action, handed, passed, inNewGroup, afterCut, result, step}
 use Rattle.model.specs.MostMoves.{roundMoves, mostMoves}
+use Rattle.model.specs.Record.{Hands}
 use Rattle.algorithm.specs.Kinds.{Sound}
 use Rattle.algorithm.specs.Core.{Core}
 use Rattle.algorithm.specs.Phases.{Entitled, Stage}
 use Rattle.algorithm.specs.Chain.{chainTop, held, Chain}
 use Rattle.algorithm.specs.Cuts.{NextRound}
 use Rattle.algorithm.specs.Theorem.{CleanCut}
-use Rattle.algorithm.specs.Hands.{Hands}
 use Rattle.algorithm.specs.Reached.{stepNumber, Shaped, Since, Place, in2a, in2b, Reached}
 use Rattle.algorithm.proofs.Best.{core-moved}
 use Rattle.algorithm.proofs.Rings.{is-above, not-above, least-low, due-found, due-hands}

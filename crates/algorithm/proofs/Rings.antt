@@ -18,8 +18,8 @@ use Rattle.model.specs.Instance.{Instance}
 use Rattle.model.specs.Fairness.{owns}
 use Rattle.model.specs.Prices.{best, priceSum, priceUpToOne}
 use Rattle.model.specs.Step2b.{leastSum, above, supplies, ofLeastSum, within, reachable, atDistance, ring2b, due2b, giver2b, receiver2b, chore2b}
+use Rattle.model.specs.Record.{Hands}
 use Rattle.algorithm.specs.Due.{Due}
-use Rattle.algorithm.specs.Hands.{Hands}
 use Rattle.algorithm.proofs.UpToOne.{up-le, give-leaves, take-sum, other-sum}
 
 -- a chore of agent i that is best for agent j

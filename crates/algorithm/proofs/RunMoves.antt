@@ -14,15 +14,14 @@ use Rattle.finite.proofs.Below.{none-below, by-less}
 use Rattle.model.specs.Instance.{Instance, ownerOf}
 use Rattle.model.specs.Sheet.{asRead}
 use Rattle.model.specs.Algorithm.{State, Action, hand, pass, cut, stop, lack, Outcome, busy, done, lacking, owner, opening, action, handed, passed, afterCut, result, step, next, after, Ends}
-use Rattle.model.specs.Record.{Move, roundOf, handsOver, nextMoves, movesIn, played, moveAt}
+use Rattle.model.specs.Record.{Move, roundOf, handsOver, nextMoves, movesIn, played, Hands, moveAt}
 use Rattle.model.specs.Refusals.{sheetRefusal}
-use Rattle.model.specs.Promises.{RunMoves}
+use Rattle.model.specs.Promises.{Leads, RunMoves}
 use Rattle.model.proofs.Unique.{same-moves}
 use Rattle.model.proofs.Record.{played-append, move-before, move-next}
 use Rattle.algorithm.specs.Kinds.{Sound}
 use Rattle.algorithm.specs.Reached.{Reached}
-use Rattle.algorithm.specs.Hands.{Hands}
-use Rattle.algorithm.specs.RunMoves.{stateIn, Leads, TheMoves}
+use Rattle.algorithm.specs.RunMoves.{stateIn, TheMoves}
 use Rattle.algorithm.proofs.Reading.{sheet-sound}
 use Rattle.algorithm.proofs.Machine.{hand-known}
 use Rattle.algorithm.proofs.Begin.{opening-reached}
@@ -115,18 +114,13 @@ module _ {I : Instance} (S : Sound I) where
   leads (suc k) = leads-next (after I k) (reached S (opening-reached S) k) (leads k)
 
 pub run-moves : (s : List ℕ) → sheetRefusal s ≡ 0 → (x : State) (E : Ends (asRead s) x) → RunMoves s (movesIn (asRead s) (E .steps))
-unfolding asRead stateIn
+unfolding stateIn
 run-moves s valid x E =
-    let L : Leads (asRead s) (movesIn (asRead s) (E .steps)) x = subst (λ o. Leads (asRead s) (movesIn (asRead s) (E .steps)) (stateIn o)) (E .ends) (leads (sheet-sound s valid) (E .steps)) in
     record {
       final = x;
       ends = E;
       inOrder = refl;
-      gives = L .gives;
-      count = L .count;
-      handed = λ k l. let h = L .handed k l in record { chore = h .chore; giver = h .giver; receiver = h .receiver; owns = h .owns; apart = h .apart };
-      inRounds = L .inRounds;
-      lastRound = L .lastRound;
+      leads = subst (λ o. Leads (asRead s) (movesIn (asRead s) (E .steps)) (stateIn o)) (E .ends) (leads (sheet-sound s valid) (E .steps));
     }
 
 -- there are such moves for every sheet: none where nothing is run

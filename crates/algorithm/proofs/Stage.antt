@@ -20,12 +20,12 @@ use Rattle.model.specs.Instance.{Instance}
 use Rattle.model.specs.Fairness.{owns, total}
 use Rattle.model.specs.Prices.{priceSum, priceUpToOne}
 use Rattle.model.specs.Step2a.{giver2a, receiver2a, due2a, chore2a}
+use Rattle.model.specs.Record.{Hands}
 use Rattle.algorithm.specs.Kinds.{Sound}
 use Rattle.algorithm.specs.Core.{Core}
 use Rattle.algorithm.specs.Phases.{cutPrice, Entitled, Stage, Began, Quiet}
 use Rattle.algorithm.specs.Chain.{held}
 use Rattle.algorithm.specs.Stages.{DueA}
-use Rattle.algorithm.specs.Hands.{Hands}
 use Rattle.algorithm.proofs.UpToOne.{up-top, up-same, up-others, give-sum, take-sum, take-top, other-sum}
 use Rattle.algorithm.proofs.Best.{uncut-best, one-price, none-dearer, core-moved}
 use Rattle.algorithm.proofs.Rings.{least-low}

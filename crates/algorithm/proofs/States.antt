@@ -12,10 +12,10 @@ use Rattle.finite.proofs.Below.{by-same}
 use Rattle.finite.proofs.Lists.{tab-length, tab-at}
 use Rattle.model.specs.Instance.{Instance, priceOf}
 use Rattle.model.specs.Algorithm.{State, owner, price, group, isEntitled, handed, inNewGroup, afterCut}
+use Rattle.model.specs.Record.{Hands}
 use Rattle.welfare.proofs.Moves.{set-moves}
 use Rattle.algorithm.specs.Reached.{Shaped}
 use Rattle.algorithm.specs.Cuts.{Cuts}
-use Rattle.algorithm.specs.Hands.{Hands}
 
 module _ {I : Instance} {s : State} (L : Shaped I s) where
   -- chore k goes from w to u

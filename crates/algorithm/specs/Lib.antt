@@ -1,6 +1,5 @@
 pub mod Kinds
 pub mod Core
-pub mod Hands
 pub mod Due
 pub mod Phases
 pub mod Chain

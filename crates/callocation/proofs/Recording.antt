@@ -8,10 +8,10 @@ use borrow.Author.Tests.{ne-eqb}
 use Rattle.finite.proofs.Tests.{cond-false}
 use Rattle.finite.proofs.Below.{by-same}
 use Rattle.model.specs.declared.ShareOut.{ShareOut}
-use Rattle.model.specs.Refusals.{_orElse_, allocateRefusal, recordRefusal, recordedRefusal}
+use Rattle.model.specs.Refusals.{_orElse_, recordRefusal, recordedRefusal}
 use Rattle.model.specs.Replies.{shareOutReply}
 use Rattle.model.specs.Promises.{Allocated, Written, Recorded}
-use Rattle.sheet.proofs.OrElse.{or-else-zero}
+use Rattle.sheet.proofs.Refusal.{recorded-taken}
 use Rattle.pricebytes.specs.PriceBytes.{pricesIn}
 use Rattle.pricebytes.proofs.Reading.{prices-count}
 use Rattle.cmodel.specs.Numbers.{refusalIn, movesAfter, cutsAfter}
@@ -26,12 +26,11 @@ module _ {s owners scratch lent owners′ scratch′ lent′ bytes xs xs′ rest
 
   -- the number that is returned is the refusal
   answered : refusalIn (shareOutReply answer) ≡ refusal (length xs)
-  unfolding recordedRefusal
   answered =
       by-same (refusal (length xs)) 0
       (λ e.
-      let none = or-else-zero (allocateRefusal s (length owners) (length xs) (length scratch)) (recordRefusal (length (R .moves)) (length lent)) e in
-      ap refusalIn (R .notRefused e .0 .notRefused (none .0) .answer) ∙ sym e)
+      let taken = recorded-taken s (length owners) (length xs) (length scratch) (length (R .moves)) (length lent) e in
+      ap refusalIn (R .notRefused e .0 .notRefused (taken .0) .answer) ∙ sym e)
       (λ h. ap refusalIn (R .turnedDown h .0 .answer))
 
   -- all prices would have been turned down alike

@@ -10,12 +10,12 @@ use Rattle.model.specs.declared.ShareOut.{ShareOut}
 use Rattle.model.specs.declared.ListVerdict.{ListVerdict}
 use Rattle.model.specs.declared.PriceVerdict.{PriceVerdict}
 use Rattle.model.specs.declared.BookResult.{BookResult}
-use Rattle.model.specs.Instance.{ownerOf}
+use Rattle.model.specs.Instance.{Instance, ownerOf}
 use Rattle.model.specs.Sheet.{agentsOf, choresOf, asMarked, asRead}
 use Rattle.model.specs.Contents.{sheetCount, sheetOf}
 use Rattle.model.specs.Fairness.{ef1, dominates, isAllocation}
 use Rattle.model.specs.Algorithm.{State, lacking, opening, after, Ends}
-use Rattle.model.specs.Record.{Move, movesIn, moveSize, recordOf, played, moveAt}
+use Rattle.model.specs.Record.{Move, movesIn, moveSize, recordOf, played, Hands, moveAt}
 use Rattle.model.specs.Refusals.{sheetRefusal, allocateRefusal, recordedRefusal, lookupRefusal, bookRefusal}
 use Rattle.model.specs.Replies.{Reply, refused, shared, absent, holds, wasteful, accepted, shareOutReply, listReply, priceReply, replyAt}
 use Rattle.model.specs.Verdicts.{listCheck, priceCheck}
@@ -75,13 +75,19 @@ pub record Allocated (s owners prices scratch owners′ prices′ scratch′ : L
       (allocateRefusal s (length owners) (length prices) (length scratch) ≡ 0 → ⊥)
       → NotShared (allocateRefusal s (length owners) (length prices) (length scratch)) owners prices scratch owners′ prices′ scratch′ r
 
--- One move on the sheet s, over the owners that it finds.
-pub record Handed (s owners : List ℕ) (t : Move) : Type 0 where
-  pub chore : t .chore < choresOf s
-  pub giver : t .giver < agentsOf s
-  pub receiver : t .receiver < agentsOf s
-  pub owns : ownerOf owners (t .chore) ≡ t .giver
-  pub apart : t .giver ≡ t .receiver → ⊥
+-- These moves lead from the opening to the state s.
+pub record Leads (I : Instance) (moves : List Move) (s : State) : Type 0 where
+  -- "The record played over the opening list must give the final list"
+  pub gives : played moves (opening I .owners) ≡ s .owners
+  -- "and its length is the number of moves."
+  pub count : length moves ≡ s .moves
+  -- each giver owns its chore when it is handed over, after the moves before it, and is not the receiver
+  pub handed :
+      (k : ℕ) → k < length moves
+      → Hands I (ownerOf (played (take k moves) (opening I .owners))) (moveAt moves k .chore) (moveAt moves k .giver) (moveAt moves k .receiver)
+  -- rounds never fall, and end with the one after the last cut, or before
+  pub inRounds : (j k : ℕ) → j ≤ k → k < length moves → moveAt moves j .round ≤ moveAt moves k .round
+  pub lastRound : (k : ℕ) → k < length moves → moveAt moves k .round ≤ s .cuts + 1
 
 -- The moves of the run of Algorithm 1 on a sheet that breaks no rule.
 pub record RunMoves (s : List ℕ) (moves : List Move) : Type 0 where
@@ -89,15 +95,7 @@ pub record RunMoves (s : List ℕ) (moves : List Move) : Type 0 where
   pub ends : Ends (asRead s) final
   -- "for each move, in the order made"
   pub inOrder : moves ≡ movesIn (asRead s) (ends .steps)
-  -- "The record played over the opening list must give the final list"
-  pub gives : played moves (opening (asRead s) .owners) ≡ final .owners
-  -- "and its length is the number of moves."
-  pub count : length moves ≡ final .moves
-  -- each giver owns its chore when it is handed over, and is not the receiver
-  pub handed : (k : ℕ) → k < length moves → Handed s (played (take k moves) (opening (asRead s) .owners)) (moveAt moves k)
-  -- rounds never fall, and end with the one after the last cut, or before
-  pub inRounds : (j k : ℕ) → j ≤ k → k < length moves → moveAt moves j .round ≤ moveAt moves k .round
-  pub lastRound : (k : ℕ) → k < length moves → moveAt moves k .round ≤ final .cuts + 1
+  pub leads : Leads (asRead s) moves final
 
 -- The moves stand first in the record, and "the rest of the record buffer keeps its content."
 pub record Written (moves : List Move) (bytes bytes′ : List ℕ) : Type 0 where

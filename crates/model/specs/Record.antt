@@ -1,9 +1,10 @@
 -- Document 02, request 1: "a record of the run: for each move, in the order made, the reel, the giver, the receiver, the round and the step
 -- (1 for 2a, 2 for 2b), six bytes each in this order, the reel as two bytes and high byte first". The moves are read off Algorithm 1's own
 -- steps.
-use Prim.Native.Nat.{ℕ, zero, suc, _+_, _/_, _%_}
+use Prim.Native.Nat.{ℕ, zero, suc, _+_, _/_, _%_, _<_}
 use mathlib.Core.Bool.{cond}
 use mathlib.Core.List.{List, [], _∷_, _++_}
+use mathlib.Core.Path.{_≡_}
 use lib.Dec.{eqb}
 use lib.ListN.{getD, set}
 use Rattle.model.specs.Instance.{Instance}
@@ -61,6 +62,14 @@ recordOf (t ∷ ts) = moveBytes t ++ recordOf ts
 unfoldable pub played : List Move → List ℕ → List ℕ
 played [] owners = owners
 played (t ∷ ts) owners = played ts (set owners (t .chore) (t .receiver + 1))
+
+-- Agent w hands chore c over to another agent u; x gives each chore's owner.
+pub record Hands (I : Instance) (x : ℕ → ℕ) (c w u : ℕ) : Type 0 where
+  pub chore : c < I .m
+  pub giver : w < I .n
+  pub receiver : u < I .n
+  pub owns : x c ≡ w
+  pub apart : w ≡ u → ⊥
 
 -- move k, counted from 0; there is none from the length on
 unfoldable pub moveAt : List Move → ℕ → Move

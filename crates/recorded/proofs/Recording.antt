@@ -12,15 +12,14 @@ use Rattle.model.specs.declared.ShareOut.{ShareOut}
 use Rattle.model.specs.Sheet.{agentsOf, choresOf, asRead}
 use Rattle.model.specs.Record.{Move, moveSize, recordOf}
 use Rattle.model.specs.MostMoves.{mostMoves}
-use Rattle.model.specs.Refusals.{allocateRefusal, recordRefusal, recordedRefusal}
+use Rattle.model.specs.Refusals.{recordRefusal, recordedRefusal}
 use Rattle.model.specs.Replies.{refused}
 use Rattle.model.specs.Promises.{Written, Recorded}
 use Rattle.model.proofs.Unique.{unique}
 use Rattle.records.specs.Noted.{Holding}
 use Rattle.records.proofs.Bytes.{record-length}
 use Rattle.sheet.specs.Valid.{Valid}
-use Rattle.sheet.proofs.OrElse.{or-else-zero}
-use Rattle.sheet.proofs.Refusal.{accepted, record-room}
+use Rattle.sheet.proofs.Refusal.{accepted, record-room, recorded-taken}
 use Rattle.algorithm.proofs.Theorem.{few-of}
 use Rattle.algorithm.proofs.RunMoves.{moves-of, moves-are}
 use Rattle.allocation.specs.Shared.{Shared, SharedWith}
@@ -33,7 +32,7 @@ unfolding movesFor
 counts-them {s} v S =
     let R = moves-of s .run (accepted s v) in
     let E = S .ended .ends in
-    sym (R .count ∙ ap (λ y. y .moves) (unique (asRead s) (R .ends .steps) (E .steps) (R .final) _ (R .ends .ends) (E .ends)))
+    sym (R .leads .count ∙ ap (λ y. y .moves) (unique (asRead s) (R .ends .steps) (E .steps) (R .final) _ (R .ends .ends) (E .ends)))
 
 -- room for the most moves is room for them
 pub most-fit : {s : List ℕ} {most : ℕ} (bytes : ℕ) → Valid s → most ≡ mostMoves (agentsOf s) (choresOf s) → recordRefusal most bytes ≡ 0 → recordRefusal (length (movesFor s)) bytes ≡ 0
@@ -42,7 +41,7 @@ most-fit {s} {most} bytes v is e =
     let valid = accepted s v in
     let R = moves-of s .run valid in
     let room = record-room most bytes e in
-    cond-false _ _ (le-ltb bytes (moveSize * length (moves-of s .moves)) (omega (arith, room, is, R .count, few-of s valid (R .final) (R .ends) .inAll)))
+    cond-false _ _ (le-ltb bytes (moveSize * length (moves-of s .moves)) (omega (arith, room, is, R .leads .count, few-of s valid (R .final) (R .ends) .inAll)))
 
 -- the moves fit, so they stand first and the rest is kept
 written : {moves : List Move} {lent bytes : List ℕ} → moveSize * length moves ≤ length lent → Holding moves lent bytes → Written moves lent bytes
@@ -58,13 +57,6 @@ abbrev refusal : List ℕ → List ℕ → List ℕ → List ℕ → List ℕ �
 refusal s owners prices scratch lent =
     recordedRefusal s (length owners) (length prices) (length scratch) (length (movesFor s)) (length lent)
 
--- what a refusal number of 0 gives
-pub taken : (s : List ℕ) (owners prices scratch bytes : ℕ) → recordedRefusal s owners prices scratch (length (movesFor s)) bytes ≡ 0 → (allocateRefusal s owners prices scratch ≡ 0) × (moveSize * length (movesFor s) ≤ bytes)
-unfolding recordedRefusal
-taken s owners prices scratch bytes e =
-    let both = or-else-zero (allocateRefusal s owners prices scratch) (recordRefusal (length (movesFor s)) bytes) e in
-    (both .0, record-room (length (movesFor s)) bytes (both .1))
-
 module _ {s owners prices scratch lent : List ℕ} where
   pub refused-kept : {k : ℕ} → k ≡ refusal s owners prices scratch lent → (k ≡ 0 → ⊥) → Recorded s owners prices scratch lent owners prices scratch lent (ShareOut.Refused k)
   unfolding movesFor
@@ -79,7 +71,7 @@ module _ {s owners prices scratch lent : List ℕ} where
   pub recorded-out : {owners′ prices′ scratch′ bytes : List ℕ} {r : ShareOut} → refusal s owners prices scratch lent ≡ 0 → SharedWith s owners prices scratch lent owners′ prices′ scratch′ bytes r → Recorded s owners prices scratch lent owners′ prices′ scratch′ bytes r
   unfolding movesFor
   recorded-out {bytes = bytes} e S =
-      let room = taken s (length owners) (length prices) (length scratch) (length lent) e in
+      let room = recorded-taken s (length owners) (length prices) (length scratch) (length (movesFor s)) (length lent) e in
       let valid = is-fine s (length owners) (length prices) (length scratch) (room .0) .unbroken in
       let noted = subst (λ moves. Holding moves lent bytes) (sym (moves-are s valid (S .ends))) (S .noted) in
       record {

@@ -14,7 +14,7 @@ use Rattle.finite.proofs.Search.{any-none, any-none-intro}
 use Rattle.model.specs.Limits.{maxChores, maxWeight}
 use Rattle.model.specs.Sheet.{headerSize, agentsOf, choresOf, easyWeight, difficultWeight, sheetLength, markAt}
 use Rattle.model.specs.Record.{moveSize}
-use Rattle.model.specs.Refusals.{_orElse_, outOfRange, weightsFault, isMark, marksFault, headerRefusal, sheetRefusal, lentRefusal, recordRefusal}
+use Rattle.model.specs.Refusals.{_orElse_, outOfRange, weightsFault, isMark, marksFault, headerRefusal, sheetRefusal, lentRefusal, allocateRefusal, recordRefusal, recordedRefusal}
 use Rattle.sheet.specs.Valid.{Valid}
 use Rattle.sheet.proofs.OrElse.{or-else-zero, when-none, peel}
 
@@ -103,6 +103,13 @@ lent-room {needed} {lent} e = ltb-false lent needed (when-none _ 7 e)
 pub record-room : (moves bytes : ℕ) → recordRefusal moves bytes ≡ 0 → moveSize * moves ≤ bytes
 unfolding recordRefusal
 record-room moves bytes e = ltb-false bytes (moveSize * moves) (when-none _ 10 e)
+
+-- where a share-out with a record is not turned down, neither is the one without, and the moves fit
+pub recorded-taken : (s : List ℕ) (owners prices scratch moves bytes : ℕ) → recordedRefusal s owners prices scratch moves bytes ≡ 0 → (allocateRefusal s owners prices scratch ≡ 0) × (moveSize * moves ≤ bytes)
+unfolding recordedRefusal
+recorded-taken s owners prices scratch moves bytes e =
+    let both = or-else-zero (allocateRefusal s owners prices scratch) (recordRefusal moves bytes) e in
+    (both .0, record-room moves bytes (both .1))
 
 pub lent-ok : {needed lent : ℕ} → needed ≤ lent → lentRefusal needed lent ≡ 0
 unfolding lentRefusal

@@ -15,8 +15,8 @@ use Rattle.model.specs.Record.{Move, moveSize, recordOf}
 use Rattle.model.specs.Refusals.{_orElse_, sheetRefusal, allocateRefusal, recordRefusal, recordedRefusal}
 use Rattle.model.specs.Replies.{shareOutReply, refused, shared}
 use Rattle.model.specs.Promises.{RunMoves, SharedOut, Recorded}
-use Rattle.sheet.proofs.OrElse.{or-else-next, or-else-first, or-else-none, or-else-zero}
-use Rattle.sheet.proofs.Refusal.{valid, lent-ok, record-room}
+use Rattle.sheet.proofs.OrElse.{or-else-next, or-else-first, or-else-none}
+use Rattle.sheet.proofs.Refusal.{valid, lent-ok, recorded-taken}
 use Rattle.allocation.specs.Final.{finalOf}
 use Rattle.allocation.proofs.Final.{final-demand3}
 use Rattle.algorithm.proofs.RunMoves.{moves-are}
@@ -57,7 +57,7 @@ module _ (s : List ℕ) (z : sheetRefusal s ≡ 0) where
   final-same {x} E = final-demand3 s z .only x E
 
   pub count-same : {moves : List Move} → RunMoves s moves → length moves ≡ finalOf s .moves
-  count-same R = R .count ∙ ap (λ x. x .moves) (final-same (R .ends))
+  count-same R = R .leads .count ∙ ap (λ x. x .moves) (final-same (R .ends))
 
 -- what is lent, and what comes back
 module _ {s owners prices scratch bytes owners′ prices′ scratch′ bytes′ : List ℕ} {r : ShareOut} (o : maxChores ≡ length owners) (p : maxChores ≡ length prices) (c : scratchSize ≡ length scratch) (b : recordSize ≡ length bytes) (o′ : length owners′ ≡ length owners) (p′ : length prices′ ≡ length prices) (b′ : length bytes′ ≡ length bytes) (R : Recorded s owners prices scratch bytes owners′ prices′ scratch′ bytes′ r) where
@@ -69,15 +69,14 @@ module _ {s owners prices scratch bytes owners′ prices′ scratch′ bytes′ 
 
   -- not refused: the state in which the share-out ended is the one of the run
   module _ (z : lentNumber ≡ 0) where
-    both-none : (allocateRefusal s (length owners) (length prices) (length scratch) ≡ 0) × (recordRefusal (length (R .moves)) (length bytes) ≡ 0)
-    unfolding recordedRefusal
-    both-none = or-else-zero (allocateRefusal s (length owners) (length prices) (length scratch)) (recordRefusal (length (R .moves)) (length bytes)) z
+    taken : (allocateRefusal s (length owners) (length prices) (length scratch) ≡ 0) × (moveSize * length (R .moves) ≤ length bytes)
+    taken = recorded-taken s (length owners) (length prices) (length scratch) (length (R .moves)) (length bytes) z
 
     accepted : refusalOf s ≡ 0
     accepted = sym lent-is ∙ z
 
     out : SharedOut s owners prices scratch owners′ prices′ scratch′ r
-    out = R .notRefused z .0 .notRefused (both-none .0)
+    out = R .notRefused z .0 .notRefused (taken .0)
 
     final-is : out .final ≡ finalOf s
     final-is = final-same s (unbroken s accepted) (out .demand3 .ends)
@@ -93,7 +92,7 @@ module _ {s owners prices scratch bytes owners′ prices′ scratch′ bytes′ 
       all-moves = count-is ∙ ap (λ x. x .moves) final-is ∙ sym (count-same s (unbroken s accepted) (R .run (unbroken s accepted)))
 
       fits : moveSize * count ≤ length bytes′
-      fits = omega (arith, all-moves, record-room (length (R .moves)) (length bytes) (both-none .1))
+      fits = omega (arith, all-moves, taken .1)
 
       left : Left s count cuts owners′ prices′ bytes′
       left =

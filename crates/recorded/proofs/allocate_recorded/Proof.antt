@@ -1,7 +1,8 @@
 -- `recorded::allocate_recorded` meets its contract, for every sheet and whatever is lent.
 use mathlib.Core.Path.{sym, _∙_}
 use borrow.Author.Needs.{needs}
-use Rattle.recorded.proofs.Recording.{refused-kept, taken, recorded-out}
+use Rattle.sheet.proofs.Refusal.{recorded-taken}
+use Rattle.recorded.proofs.Recording.{refused-kept, recorded-out}
 use Rattle.recorded.proofs.allocate_recorded.Statement.{statement}
 use Rattle.recorded.proofs.allocate_recorded.Tie as tie
 
@@ -14,7 +15,7 @@ returns c = refused-kept (c .before .recorded-refusal .ensures) (c .if1 .taken)
 share-out-requires : tie.Need-share-out-requires
 share-out-requires c κs =
     let test = c .before .before .before .before in
-    taken _ _ _ _ _ (sym (test .before .recorded-refusal .ensures) ∙ test .if1 .left) .0
+    recorded-taken _ _ _ _ _ _ (sym (test .before .recorded-refusal .ensures) ∙ test .if1 .left) .0
 
 same-length : tie.Need-same-length
 same-length c = search needs
