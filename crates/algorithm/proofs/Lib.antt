@@ -15,5 +15,6 @@ pub mod Actions
 pub mod Machine
 pub mod Ending
 pub mod Begin
+pub mod Cheapest
 pub mod RunMoves
 pub mod Theorem

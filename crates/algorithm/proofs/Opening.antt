@@ -1,17 +1,23 @@
 -- The opening: that what the argument needs of one brings the core invariant, and that Algorithm 1's opening has it.
 -- Assumes nothing.
-use Prim.Native.Nat.{ℕ, _+_, _*_, _<_}
-use mathlib.Core.Bool.{Bool, true, false, not, _&&_}
-use mathlib.Core.Path.{_≡_, sym, _∙_}
+use Prim.Native.Nat.{ℕ, zero, suc, _+_, _*_, _<_}
+use mathlib.Core.Bool.{Bool, true, false, cond, not, _&&_}
+use mathlib.Core.List.{[], _∷_, _++_}
+use mathlib.Core.Path.{_≡_, refl, sym, ap, ap₂, _∙_}
 use native.Mathlib.Omega.{arith}
-use lib.ListN.{length, length-replicate, getD-replicate}
-use Rattle.finite.specs.Search.{anyBelow, Hit}
-use Rattle.finite.specs.Lists.{Picks}
+use lib.Dec.{eqb, ltb}
+use lib.ListN.{length, getD, length-replicate, getD-replicate}
+use Rattle.finite.specs.Search.{anyBelow, firstBelow, Hit}
+use Rattle.finite.specs.Lists.{tabulate, Picks}
 use Rattle.finite.proofs.Tests.{by-test, clash, and-intro, or-left, or-right, not-on, cond-not}
 use Rattle.finite.proofs.Search.{any-elim, first-some, first-passes}
 use Rattle.finite.proofs.Lists.{tab-length, tab-at}
+use Rattle.finite.proofs.Counts.{count-cong}
+use Rattle.finite.proofs.Chosen.{chosen-cong}
+use Rattle.finite.proofs.Running.{smallest-some}
 use Rattle.model.specs.Instance.{Instance, ownerOf, priceOf}
-use Rattle.model.specs.Algorithm.{openingOwner, openingPrice, opening, owner, price, group, isEntitled}
+use Rattle.model.specs.Fairness.{owns, held}
+use Rattle.model.specs.Algorithm.{fewest, opensWith, openedBefore, openingOwner, openingPrice, opening, owner, price, group, isEntitled}
 use Rattle.algorithm.specs.Kinds.{Sound, dear, ok, level, kindPrice}
 use Rattle.algorithm.specs.Core.{Core}
 use Rattle.algorithm.specs.Opened.{Opened}
@@ -54,8 +60,30 @@ module _ {I : Instance} {x p : ℕ → ℕ} (o : Opened I x p) where
             passes = and-intro (not-on (uncut (e .index) (e .below))) (easy-ok I i (e .index) (e .passes));
           }
 
--- document 01's opening
+-- a chore's opening goes by the owners of the chores before it alone
+module _ {x y : ℕ → ℕ} (c : ℕ) (same : (d : ℕ) → d < c → x d ≡ y d) where
+  held-cong : (i : ℕ) → held c x i ≡ held c y i
+  unfolding held owns
+  held-cong i = count-cong c (λ d l. ap (λ o. eqb o i) (same d l))
+
+  opens-cong : (I : Instance) → opensWith I x c ≡ opensWith I y c
+  unfolding opensWith fewest
+  opens-cong I =
+      ap (cond (anyBelow (I .n) (λ i. I .easy i c)) (firstBelow (I .n) (λ i. I .easy i c)))
+      (chosen-cong (I .n) (λ i l. refl) (λ j i k l. ap₂ ltb (held-cong j) (held-cong i)))
+
+-- Algorithm 1's opening
 module _ (I : Instance) where
+  opened-before : (c : ℕ) → openedBefore I c ≡ tabulate c (openingOwner I)
+  unfolding openedBefore openingOwner tabulate
+  opened-before zero = refl
+  opened-before (suc c) = ap (λ xs. xs ++ (openingOwner I c ∷ [])) (opened-before c)
+
+  -- its recursion: each chore goes by the owners that the opening gives those before it
+  pub opens-after : (c : ℕ) → openingOwner I c ≡ opensWith I (openingOwner I) c
+  unfolding openingOwner
+  opens-after c = opens-cong c (λ d l. ap (λ xs. getD xs d 0) (opened-before c) ∙ tab-at (openingOwner I) d 0 l) I
+
   pub opening-owner : (c : ℕ) → c < I .m → owner I (opening I) c ≡ openingOwner I c
   unfolding opening ownerOf
   opening-owner c h = omega (arith, tab-at (λ c. openingOwner I c + 1) c 0 h)
@@ -89,17 +117,18 @@ module _ (I : Instance) where
   opening-entitled-length = length-replicate (I .m) 0
 
   owner-easy : (c : ℕ) → anyBelow (I .n) (λ i. I .easy i c) ≡ true → (openingOwner I c < I .n) × (I .easy (openingOwner I c) c ≡ true)
-  unfolding openingOwner
+  unfolding openingOwner opensWith
   owner-easy c e =
       let t : ℕ → Bool = λ i. I .easy i c in
       let r = any-elim (I .n) t e in
       let l = first-some t (r .index) (r .below) (r .passes) in
       rw e (l, first-passes (I .n) t l)
 
-  owner-some : (c : ℕ) → 0 < I .n → openingOwner I c < I .n
-  unfolding openingOwner
+  pub owner-some : (c : ℕ) → 0 < I .n → openingOwner I c < I .n
+  unfolding openingOwner opensWith fewest
   owner-some c some =
-      by-test (anyBelow (I .n) (λ i. I .easy i c)) (λ e. owner-easy c e .0) (λ e. rw e some)
+      by-test (anyBelow (I .n) (λ i. I .easy i c)) (λ e. owner-easy c e .0)
+      (λ e. rw e (smallest-some (λ i. true) (λ i. held c (λ d. getD (openedBefore I c) d 0) i) 0 some refl))
 
   pub opening-picks : 0 < I .n → Picks (I .n) (I .m) (opening I .owners)
   unfolding opening

@@ -24,6 +24,7 @@ use Rattle.algorithm.proofs.Reading.{sheet-sound}
 use Rattle.algorithm.proofs.End.{check-accepted}
 use Rattle.algorithm.proofs.Machine.{fewer-cuts, moves-bound, clean-cut}
 use Rattle.algorithm.proofs.Begin.{opening-reached}
+use Rattle.algorithm.proofs.Cheapest.{opening-costs-least}
 use Rattle.algorithm.proofs.Ending.{run-ends, reached, never-lacking, done-reached, done-even}
 
 -- a reached state's owners are m numbers from 1 to n
@@ -60,6 +61,7 @@ theorem s valid =
     let passes = check-accepted s (x .owners) (x .prices) valid (R .core) (picks R) (R .shaped .prices) (done-even S O (E .count) x (E .ends)) in
     let fair = accepted-fair s (x .owners) (x .prices) passes in
     record {
+      opens = opening-costs-least S;
       final = x;
       demand3 =
           record {

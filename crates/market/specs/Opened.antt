@@ -1,9 +1,12 @@
 -- What the opening is given, and what it leaves.
 use Prim.Native.Nat.{ℕ, _+_, _<_}
+use mathlib.Core.Bool.{true}
 use mathlib.Core.List.{List}
 use mathlib.Core.Path.{_≡_}
-use lib.ListN.{length}
-use Rattle.finite.specs.Bits.{SetOf}
+use lib.Dec.{ltb}
+use lib.ListN.{length, getD}
+use Rattle.finite.specs.Bits.{bit, SetOf}
+use Rattle.finite.specs.Search.{firstBelow, chosen}
 use Rattle.finite.specs.Lists.{tabulate}
 use Rattle.model.specs.Sheet.{agentsOf, choresOf, asRead, allDifficult}
 use Rattle.model.specs.Algorithm.{openingOwner, openingPrice}
@@ -19,6 +22,11 @@ pub record OpenIn (s : List ℕ) (n m all c : ℕ) : Type 0 where
   pub on : OpenOn s n m
   pub chore : c < m
   pub allDifficultRows : SetOf n all (allDifficult s)
+
+-- the owner of a chore that the agents of a word find easy, where `held` has how many chores each agent holds
+pub record OpensWith (n easy : ℕ) (held : List ℕ) (owner : ℕ) : Type 0 where
+  pub easyFor : (easy ≡ 0 → ⊥) → owner ≡ firstBelow n (λ i. bit easy i)
+  pub dear : easy ≡ 0 → owner ≡ chosen n (λ i. true) (λ j i. ltb (getD held j 0) (getD held i 0))
 
 -- an entry for each chore in each list that the opening fills
 pub record OpenInto (s : List ℕ) (n m : ℕ) (owners prices likes : List ℕ) : Type 0 where

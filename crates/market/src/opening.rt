@@ -1,10 +1,10 @@
 // The opening: who finds what easy in the share-out's reading, the first owners and prices.
-ghost use Prim.Native.Nat.{_≤_};
+ghost use Prim.Native.Nat.{_≤_, _<_};
 ghost use mathlib.Core.Bool.{true};
 ghost use Rattle.finite.specs.Bits.{SetOf};
 ghost use Rattle.model.specs.Limits.{maxAgents};
 ghost use Rattle.model.specs.Sheet.{asRead, allDifficult};
-ghost use Rattle.market.specs.Opened.{OpenOn, OpenIn, OpenInto, Opened};
+ghost use Rattle.market.specs.Opened.{OpenOn, OpenIn, OpensWith, OpenInto, Opened};
 use crate::words::has;
 use crate::words::lowest;
 use crate::words::with;
@@ -55,6 +55,19 @@ fn everyone(n: usize) -> u32
     w
 }
 
+// The agent with whom a chore opens that these agents find easy: the lowest of them, or, where there is none, of all agents the one who holds the
+// fewest chores.
+fn opens_with(n: usize, easy: u32, held: &[u32; model::MAX_AGENTS]) -> usize
+    requires { ⌜ (0 < n) × (n ≤ maxAgents) ⌝ }
+    ensures { λ r. ⌜ OpensWith n easy (now (held .entry)) r ⌝ }
+{
+    if easy == 0 {
+        totals::first_least(n, held)
+    } else {
+        lowest(easy, n)
+    }
+}
+
 // Owners and prices before round 1, and for each chore the agents for whom it is ok.
 pub fn open(
     sheet: &[u8],
@@ -71,15 +84,17 @@ pub fn open(
     let b = sheet::difficult_weight(sheet);
     let all = all_difficult_rows(sheet, n, m);
     let anyone = everyone(n);
+    let mut held = totals::zeros();
     let mut c = 0;
     while c < m {
         let easy = easy_for(sheet, n, m, all, c);
+        let owner = opens_with(n, easy, &held);
+        held[owner] += 1;
+        owners[c] = owner as u8 + 1;
         if easy == 0 {
-            owners[c] = 1;
             prices[c] = b * b;
             likes[c] = anyone;
         } else {
-            owners[c] = lowest(easy, n) as u8 + 1;
             prices[c] = a * b;
             likes[c] = easy;
         }

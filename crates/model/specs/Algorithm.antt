@@ -1,14 +1,15 @@
--- Document 01, "The share-out, step by step": Algorithm 1 as a machine that takes one small step at a time. A run ends when some number of
--- steps ends it; no limit is set on that number.
+-- Document 01, "The share-out, step by step", from the opening of document 02, request 2: Algorithm 1 as a machine that takes one small step
+-- at a time. A run ends when some number of steps ends it; no limit is set on that number.
 use Prim.Native.Nat.{ℕ, zero, suc, _+_, _*_, _/_, _-_}
-use mathlib.Core.Bool.{Bool, cond, _&&_}
-use mathlib.Core.List.{List}
+use mathlib.Core.Bool.{Bool, true, cond, _&&_}
+use mathlib.Core.List.{List, [], _∷_, _++_}
 use mathlib.Core.Path.{_≡_}
 use lib.Dec.{eqb, ltb}
 use lib.ListN.{getD, set, replicate}
-use Rattle.finite.specs.Search.{anyBelow, firstBelow}
+use Rattle.finite.specs.Search.{anyBelow, firstBelow, chosen}
 use Rattle.finite.specs.Lists.{tabulate}
 use Rattle.model.specs.Instance.{Instance, ownerOf, priceOf}
+use Rattle.model.specs.Fairness.{held}
 use Rattle.model.specs.Step2a.{giver2a, receiver2a, due2a, chore2a}
 use Rattle.model.specs.Step2b.{above, reachable, due2b, giver2b, receiver2b, chore2b}
 
@@ -45,10 +46,24 @@ pub data Outcome : Type 0 where
   lacking : State → Outcome
 
 module _ (I : Instance) where
-  -- "Each reel goes to the lowest-numbered person who finds it easy, else to person 1."
+  -- The agent with whom chore c opens, where x gives the owners of the chores before it.
+  module _ (x : ℕ → ℕ) (c : ℕ) where
+    -- document 02, request 2: "whoever holds the fewest reels at that point [...]; a tie goes to the lowest number."
+    unfoldable pub fewest : ℕ
+    fewest = chosen (I .n) (λ i. true) (λ j i. ltb (held c x j) (held c x i))
+
+    -- "reels that somebody finds easy in that reading open as before": "Each reel goes to the lowest-numbered person who finds it easy"
+    unfoldable pub opensWith : ℕ
+    opensWith =
+        cond (anyBelow (I .n) (λ i. I .easy i c)) (firstBelow (I .n) (λ i. I .easy i c)) fewest
+
+  -- "going through the reels by number": the agents with whom the chores before c open
+  unfoldable pub openedBefore : ℕ → List ℕ
+  openedBefore zero = []
+  openedBefore (suc c) = openedBefore c ++ (opensWith (λ d. getD (openedBefore c) d 0) c ∷ [])
+
   unfoldable pub openingOwner : ℕ → ℕ
-  openingOwner c =
-      cond (anyBelow (I .n) (λ i. I .easy i c)) (firstBelow (I .n) (λ i. I .easy i c)) 0
+  openingOwner c = opensWith (λ d. getD (openedBefore c) d 0) c
 
   -- "Its price is a × b if somebody finds it easy, else b × b."
   unfoldable pub openingPrice : ℕ → ℕ

@@ -4,7 +4,7 @@ use mathlib.Core.Bool.{Bool, not, _&&_, _||_}
 use mathlib.Core.List.{List}
 use lib.Dec.{eqb, leb, ltb}
 use lib.ListN.{length, getD}
-use Rattle.finite.specs.Sums.{sumWhere}
+use Rattle.finite.specs.Sums.{sumTo, sumWhere, countTo}
 use Rattle.finite.specs.Search.{anyBelow, allBelow}
 use Rattle.finite.specs.Lists.{someList}
 use Rattle.model.specs.Instance.{Instance, cost, ownerOf}
@@ -17,6 +17,10 @@ owns x i c = eqb (x c) i
 unfoldable pub holdsAny : ℕ → (ℕ → ℕ) → ℕ → Bool
 holdsAny m x i = anyBelow m (owns x i)
 
+-- how many of the first m chores agent i holds
+unfoldable pub held : ℕ → (ℕ → ℕ) → ℕ → ℕ
+held m x i = countTo m (owns x i)
+
 -- what agent i's chores come to, each counted as f says
 unfoldable pub total : ℕ → (ℕ → ℕ) → (ℕ → ℕ) → ℕ → ℕ
 total m x f i = sumWhere m (owns x i) f
@@ -24,6 +28,10 @@ total m x f i = sumWhere m (owns x i) f
 -- what agent j's chores cost, or would cost, agent i
 unfoldable pub costTo : Instance → (ℕ → ℕ) → ℕ → ℕ → ℕ
 costTo I x i j = total (I .m) x (cost I i) j
+
+-- what all agents' chores cost those who hold them, in total
+unfoldable pub totalCost : Instance → (ℕ → ℕ) → ℕ
+totalCost I x = sumTo (I .n) (λ i. costTo I x i i)
 
 -- what agent i's chores cost agent i, with chore c taken off
 unfoldable pub costWithout : Instance → (ℕ → ℕ) → ℕ → ℕ → ℕ

@@ -1,9 +1,10 @@
 // Price sums of all agents, in one pass over the chores.
+ghost use mathlib.Core.Bool.{true};
 ghost use mathlib.Core.Path.{_≡_};
-ghost use Prim.Native.Nat.{_≤_};
+ghost use Prim.Native.Nat.{_≤_, _<_};
 ghost use lib.Dec.{ltb};
 ghost use lib.ListN.{getD, replicate};
-ghost use Rattle.finite.specs.Search.{firstBelow};
+ghost use Rattle.finite.specs.Search.{firstBelow, chosen};
 ghost use Rattle.model.specs.Limits.{maxAgents};
 ghost use Rattle.totals.specs.Totals.{Parts, TakenOff, Summing, Summed};
 
@@ -64,4 +65,20 @@ pub fn first_below(n: usize, sums: &[u32; model::MAX_AGENTS], limit: u32) -> usi
         i += 1;
     }
     n
+}
+
+// The first of n agents whose sum is the least.
+pub fn first_least(n: usize, sums: &[u32; model::MAX_AGENTS]) -> usize
+    requires { ⌜ (0 < n) × (n ≤ maxAgents) ⌝ }
+    ensures { λ r. ⌜ r ≡ chosen n (λ i. true) (λ j i. ltb (getD (now (sums .entry)) j 0) (getD (now (sums .entry)) i 0)) ⌝ }
+{
+    let mut best = 0;
+    let mut i = 1;
+    while i < n {
+        if sums[i] < sums[best] {
+            best = i;
+        }
+        i += 1;
+    }
+    best
 }

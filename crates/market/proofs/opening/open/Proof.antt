@@ -1,24 +1,35 @@
--- `market::opening::open` meets its contract. The loop's invariant: the chores passed are opened. A word that is 0 says that nobody finds the
--- chore easy.
+-- `market::opening::open` meets its contract. The loop's invariant: the chores passed are opened, and their owners counted. A word that is 0
+-- says that nobody finds the chore easy.
 use Prim.Native.Nat.{_-_, _≤_, _<_}
 use mathlib.Core.Path.{_≡_, _∙_}
 use mathlib.Core.Logic.{⊎-elim}
+use native.Mathlib.Nat.{mul-le-mul}
 use native.Mathlib.Omega.{arith}
-use Rattle.market.proofs.Opens.{Opens, opens-dear, opens-easy, opens-none, opens-next, opens-all}
-use native.Mathlib.Nat.{le-trans, mul-le-mul}
-use Rattle.finite.proofs.Search.{first-le}
 use Rattle.model.specs.Limits.{maxAgents}
-use Rattle.model.specs.Sheet.{choresOf}
+use Rattle.model.specs.Sheet.{choresOf, asRead}
+use Rattle.model.specs.Algorithm.{openingOwner}
+use Rattle.algorithm.proofs.Opening.{owner-some}
 use borrow.Author.Needs.{needs}
+use Rattle.market.proofs.Opens.{Opens, owner-opens, opens-dear, opens-easy, opens-none, count-room, opens-next, opens-all}
 use Rattle.market.proofs.opening.open.Statement.{statement}
 use Rattle.market.proofs.opening.open.Tie as tie
 
 abbrev Inv-loop : tie.InvT-loop
-Inv-loop sheet n m owners₀ prices₀ likes₀ a b all anyone c₀ owners prices likes c =
-    (c ≤ m) × Opens sheet c owners prices likes
+Inv-loop sheet n m owners₀ prices₀ likes₀ a b all anyone held₀ c₀ owners prices likes held c =
+    (c ≤ m) × Opens sheet c held owners prices likes
 
 abbrev μ-loop : tie.MeasureT-loop
-μ-loop sheet n m owners₀ prices₀ likes₀ a b all anyone c₀ owners prices likes c = m - c
+μ-loop sheet n m owners₀ prices₀ likes₀ a b all anyone held₀ c₀ owners prices likes held c = m - c
+
+-- the way back from the loop's start, from a turn, and from where the chore's owner is known
+abbrev start : tie.After-zeros Inv-loop μ-loop → tie.Start Inv-loop μ-loop
+start c = c .before .before .before .before .before .before .before .before .before
+
+abbrev turn : tie.After-opens-with Inv-loop μ-loop → tie.In-loop Inv-loop μ-loop
+turn c = c .before .before .before
+
+abbrev opened : tie.In-loop Inv-loop μ-loop → tie.After-zeros Inv-loop μ-loop
+opened c = c .before .before
 
 easy-weight-requires : tie.Need-easy-weight-requires Inv-loop μ-loop
 easy-weight-requires c κs = search needs
@@ -32,21 +43,64 @@ all-difficult-rows-requires c κs = search needs
 everyone-requires : tie.Need-everyone-requires Inv-loop μ-loop
 everyone-requires c κs = search needs
 
+zeros-requires : tie.Need-zeros-requires Inv-loop μ-loop
+zeros-requires c κs = search needs
+
 loop-holds : tie.Need-loop-holds Inv-loop μ-loop
 loop-holds c =
-    let pre = c .before .before .before .before .before .before .before .before .pre in
+    let pre = start c .pre in
     let m = pre .on .chores in
-    (omega arith, opens-none (pre .ownersSized ∙ m) (pre .pricesSized ∙ m) (pre .likesSized ∙ m))
+    (omega arith, opens-none (c .zeros .ensures) (pre .ownersSized ∙ m) (pre .pricesSized ∙ m) (pre .likesSized ∙ m))
 
 easy-for-requires : tie.Need-easy-for-requires Inv-loop μ-loop
 easy-for-requires c κs = search needs
+
+opens-with-requires : tie.Need-opens-with-requires Inv-loop μ-loop
+opens-with-requires c κs = search needs
+
+owner-is : (c : tie.After-opens-with Inv-loop μ-loop) → c .opens-with .result ≡ openingOwner (asRead (start (opened (turn c)) .args .sheet .now)) (turn c .before .loop .c)
+owner-is c =
+    let on = start (opened (turn c)) .pre .on in
+    let loop = turn c .before .loop in
+    owner-opens (start (opened (turn c)) .args .sheet .now) (loop .c) (on .agents) (c .before .before .easy-for .ensures) (on .valid .agentsFit) (loop .inv .1 .counted) (c .opens-with .ensures)
+
+-- the owner is an agent, so has a count, and its number fits a byte
+owner-fits : (c : tie.After-opens-with Inv-loop μ-loop) → c .opens-with .result < maxAgents
+unfolding asRead
+owner-fits c =
+    let start = start (opened (turn c)) in
+    let valid = start .pre .on .valid in
+    omega (arith, owner-is c, owner-some (asRead (start .args .sheet .now)) (turn c .before .loop .c) (valid .someAgent), valid .agentsFit)
+
+mul-held : tie.Need-mul-held Inv-loop μ-loop
+mul-held c = omega (arith, owner-fits c)
+
+array-read-held : tie.Need-array-read-held Inv-loop μ-loop
+array-read-held c = omega (arith, owner-fits c)
+
+add-held : tie.Need-add-held Inv-loop μ-loop
+add-held c =
+    let begun = start (opened (turn c)) in
+    let few = begun .pre .on in
+    record { fits = omega (arith, count-room (turn c .before .loop .inv .1) (owner-fits c), few .chores, few .valid .choresFit) }
+
+array-write-held : tie.Need-array-write-held Inv-loop μ-loop
+array-write-held c = omega (arith, owner-fits c)
+
+cast-owners : tie.Need-cast-owners Inv-loop μ-loop
+cast-owners c = omega (arith, owner-fits c)
+
+add-owners : tie.Need-add-owners Inv-loop μ-loop
+add-owners c = omega (arith, owner-fits c)
 
 slice-write-owners : tie.Need-slice-write-owners Inv-loop μ-loop
 slice-write-owners c = search needs
 
 mul-prices : tie.Need-mul-prices Inv-loop μ-loop
 mul-prices c =
-    let b : c .before .before .before .before .before .before .difficult-weight .result ≤ 65535 = omega (arith, c .before .before .before .before .before .before .difficult-weight .ensures .below) in
+    let begun = opened (turn (c .before)) in
+    let weight = begun .before .before .before .difficult-weight in
+    let b : weight .result ≤ 65535 = omega (arith, weight .ensures .below) in
     omega (arith, mul-le-mul b b)
 
 mul-prices-2 : tie.Need-mul-prices-2 Inv-loop μ-loop
@@ -61,28 +115,11 @@ mul-likes c = search needs
 slice-write-likes : tie.Need-slice-write-likes Inv-loop μ-loop
 slice-write-likes c = search needs
 
-lowest-requires : tie.Need-lowest-requires Inv-loop μ-loop
-lowest-requires c κs = search needs
-
--- the lowest agent's number fits a byte
-lowest-fits : (c : tie.After-lowest Inv-loop μ-loop) → c .lowest .result ≤ maxAgents
-lowest-fits c =
-    let on = c .before .before .before .before .before .before .before .before .before .before .before .before .before .pre .on in
-    rw (c .lowest .ensures) (le-trans (first-le _ _) (omega (arith, on .valid .agentsFit, on .agents)))
-
-cast-owners : tie.Need-cast-owners Inv-loop μ-loop
-cast-owners c = let l = lowest-fits c in omega arith
-
-add-owners : tie.Need-add-owners Inv-loop μ-loop
-add-owners c = let l = lowest-fits c in omega arith
-
-slice-write-owners-2 : tie.Need-slice-write-owners-2 Inv-loop μ-loop
-slice-write-owners-2 c = search needs
-
 mul-prices-3 : tie.Need-mul-prices-3 Inv-loop μ-loop
 mul-prices-3 c =
-    let a : c .before .before .before .before .before .before .before .before .easy-weight .result ≤ 65535 = omega (arith, c .before .before .before .before .before .before .before .before .easy-weight .ensures .below) in
-    let b : c .before .before .before .before .before .before .before .difficult-weight .result ≤ 65535 = omega (arith, c .before .before .before .before .before .before .before .difficult-weight .ensures .below) in
+    let begun = opened (turn (c .before)) .before .before .before in
+    let a : begun .before .easy-weight .result ≤ 65535 = omega (arith, begun .before .easy-weight .ensures .below) in
+    let b : begun .difficult-weight .result ≤ 65535 = omega (arith, begun .difficult-weight .ensures .below) in
     omega (arith, mul-le-mul a b)
 
 mul-prices-4 : tie.Need-mul-prices-4 Inv-loop μ-loop
@@ -105,17 +142,19 @@ loop-less c = search needs
 
 loop-again : tie.Need-loop-again Inv-loop μ-loop
 loop-again c =
-    let at = c .before .before .before .loop in
-    let s = c .before .before .before .before .before .before .before .before .before .before .before .before .args .sheet .now in
-    let on = c .before .before .before .before .before .before .before .before .before .before .before .before .pre .on in
-    let l : at .c < choresOf s = rw (on .chores) at (c .before .before .loop-test .taken) in
-    let easy = c .before .easy-for .ensures in
-    let a = c .before .before .before .before .before .before .before .easy-weight .ensures .is in
-    let b = c .before .before .before .before .before .before .difficult-weight .ensures .is in (
+    let known = c .before in
+    let loop = turn known .before .loop in
+    let begun = opened (turn known) in
+    let s = start begun .args .sheet .now in
+    let on = start begun .pre .on in
+    let l : loop .c < choresOf s = omega (arith, on .chores) in
+    let easy = known .before .before .easy-for .ensures in
+    let b = begun .before .before .before .difficult-weight .ensures .is in
+    let a = begun .before .before .before .before .easy-weight .ensures .is in (
       omega arith,
       ⊎-elim
-          (λ w. rw (w .1, w .2, w .3) (opens-next (at .inv .1) l (opens-dear s (at .c) (on .agents) easy (w .0 .taken) b (c .before .before .before .before .everyone .ensures))))
-          (λ w. rw (w .2, w .3, w .4, w .1 .ensures) (opens-next (at .inv .1) l (opens-easy s (at .c) (on .agents) easy (w .0 .left) a b)))
+          (λ w. rw (w .1, w .2) (opens-next (loop .inv .1) l (owner-is known) (owner-fits known) (opens-dear s (loop .c) (on .agents) easy (w .0 .taken) b (begun .before .everyone .ensures))))
+          (λ w. rw (w .1, w .2) (opens-next (loop .inv .1) l (owner-is known) (owner-fits known) (opens-easy s (loop .c) (on .agents) easy (w .0 .left) a b)))
           (c .if1 .came),
     )
 
@@ -130,8 +169,9 @@ same-length-3 c = search needs
 
 returns : tie.Need-returns Inv-loop μ-loop
 returns c =
-    let end : c .before .loop .c ≡ c .before .before .before .before .before .before .before .before .before .before .args .m = omega arith in
-    opens-all (rw (end, c .before .before .before .before .before .before .before .before .before .before .pre .on .chores) at (c .before .loop .inv .1))
+    let begun = start (c .before .before) in
+    let end : c .before .loop .c ≡ begun .args .m = omega arith in
+    opens-all (rw (end, begun .pre .on .chores) at (c .before .loop .inv .1))
 
 pub open-spec : {M : Type 1} → statement M
 open-spec =
@@ -143,18 +183,22 @@ open-spec =
     difficult-weight-requires
     all-difficult-rows-requires
     everyone-requires
+    zeros-requires
     loop-holds
     easy-for-requires
+    opens-with-requires
+    mul-held
+    array-read-held
+    add-held
+    array-write-held
+    cast-owners
+    add-owners
     slice-write-owners
     mul-prices
     mul-prices-2
     slice-write-prices
     mul-likes
     slice-write-likes
-    lowest-requires
-    cast-owners
-    add-owners
-    slice-write-owners-2
     mul-prices-3
     mul-prices-4
     slice-write-prices-2
