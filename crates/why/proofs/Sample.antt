@@ -15,7 +15,7 @@ use Rattle.model.specs.Fairness.{owns, holdsAny, total}
 use Rattle.model.specs.Prices.{ratioAtMost, best, dearest, priceUpToOne}
 use Rattle.model.specs.Step2a.{giver2a, receiver2a, due2a, chore2a}
 use Rattle.model.specs.Step2b.{leastSum, above, supplies, ofLeastSum, within, reachable, atDistance, ring2b, due2b, giver2b, receiver2b, chore2b}
-use Rattle.model.specs.Algorithm.{State, done, openingOwner, openingPrice, opening, group, isEntitled, action2a, action2b, action, handed, passed, inNewGroup, afterCut, result, step, next, after}
+use Rattle.model.specs.Algorithm.{State, done, opensWith, openingOwner, openingPrice, opening, group, isEntitled, action2a, action2b, action, handed, passed, inNewGroup, afterCut, result, step, next, after}
 use Rattle.model.specs.Record.{Move, roundOf, stepOf, handsOver, nextMoves, movesIn}
 use Rattle.model.specs.Refusals.{_orElse_, isMark, headerRefusal, sheetRefusal, recordRefusal}
 use Rattle.model.specs.Promises.{Demand3, RunMoves}
@@ -57,11 +57,11 @@ movesC =
 
 -- five steps of Algorithm 1: a move, a cut, two moves, the stop
 five-steps : (after (asRead sheetC) 5 ≡ done finalC) × (movesIn (asRead sheetC) 5 ≡ movesC)
-unfolding finalC movesC sheetC sheet marks allMarks firstRow sumTo maxTo minTo sumWhere maxWhere anyBelow allBelow firstStep firstBelow chosen tabulate wordAt reach cost ownerOf priceOf agentsOf choresOf easyWeight difficultWeight markAt isDifficult marksEasy sheetLength allDifficult asRead owns holdsAny total ratioAtMost best dearest priceUpToOne openingOwner openingPrice opening group isEntitled giver2a receiver2a due2a chore2a action2a leastSum above supplies ofLeastSum within reachable atDistance ring2b due2b giver2b receiver2b chore2b action2b action handed passed inNewGroup afterCut result step next after roundOf stepOf handsOver nextMoves movesIn
+unfolding finalC movesC sheetC sheet marks allMarks firstRow sumTo maxTo minTo sumWhere maxWhere anyBelow allBelow firstStep firstBelow chosen tabulate wordAt reach cost ownerOf priceOf agentsOf choresOf easyWeight difficultWeight markAt isDifficult marksEasy sheetLength allDifficult asRead owns holdsAny total ratioAtMost best dearest priceUpToOne opensWith openingOwner openingPrice opening group isEntitled giver2a receiver2a due2a chore2a action2a leastSum above supplies ofLeastSum within reachable atDistance ring2b due2b giver2b receiver2b chore2b action2b action handed passed inNewGroup afterCut result step next after roundOf stepOf handsOver nextMoves movesIn
 five-steps = (refl, refl)
 
 printed : bookText bookC (λ _. finalC) (λ _. movesC) ≡ textC
-unfolding bookC textC finalC movesC sheetC sheet marks allMarks firstRow sumTo anyBelow allBelow firstStep firstBelow tabulate wordAt agentsOf choresOf easyWeight difficultWeight markAt isDifficult marksEasy sheetLength allDifficult asRead openingOwner openingPrice opening sheetCount sheetStart sheetSize sheetOf _orElse_ isMark headerRefusal sheetRefusal recordRefusal digitsIn decimal field spaced sheetLine listLine openingLine ownersLine pricesLine totalLine numbersLine moveLine moveLines runLines runRefusal runText adds sheetText joined tallyTo lastLine bookText
+unfolding bookC textC finalC movesC sheetC sheet marks allMarks firstRow sumTo anyBelow allBelow firstStep firstBelow tabulate wordAt agentsOf choresOf easyWeight difficultWeight markAt isDifficult marksEasy sheetLength allDifficult asRead opensWith openingOwner openingPrice opening sheetCount sheetStart sheetSize sheetOf _orElse_ isMark headerRefusal sheetRefusal recordRefusal digitsIn decimal field spaced sheetLine listLine openingLine ownersLine pricesLine totalLine numbersLine moveLine moveLines runLines runRefusal runText adds sheetText joined tallyTo lastLine bookText
 printed = refl
 
 sheet-is : sheetOf bookC 0 ≡ sheetC
