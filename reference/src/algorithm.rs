@@ -150,16 +150,27 @@ impl<'a> Run<'a> {
     }
 }
 
-/// The owners and prices before round 1.
+/// The owners and prices before round 1. Every chore counts for the agent it
+/// opened with, liked or not.
 pub fn opening(costs: &Costs) -> (Vec<usize>, Vec<u64>) {
     let (easy, difficult) = (costs.easy, costs.difficult);
+    let mut held = vec![0; costs.agents];
     (0..costs.chores)
         .map(|chore| {
             let liking = (0..costs.agents).find(|&agent| costs.finds_easy(agent, chore));
-            match liking {
+            let (agent, price) = match liking {
                 Some(agent) => (agent, easy * difficult),
-                None => (0, difficult * difficult),
-            }
+                None => (holder_of_fewest(&held), difficult * difficult),
+            };
+            held[agent] += 1;
+            (agent, price)
         })
         .unzip()
+}
+
+/// By the number of chores that each agent holds.
+fn holder_of_fewest(held: &[usize]) -> usize {
+    // The agent's number settles ties.
+    let fewest = (0..held.len()).min_by_key(|&agent| (held[agent], agent));
+    fewest.expect("a sheet has an agent")
 }

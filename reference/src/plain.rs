@@ -67,6 +67,7 @@ impl Plain {
         for agent in 0..agents {
             plain.open_row(sheet, agent);
         }
+        plain.open_the_rest();
         plain.add_up();
         plain
     }
@@ -87,6 +88,25 @@ impl Plain {
                 self.owner[chore] = agent as u8;
                 self.price[chore] = self.easy * self.difficult;
             }
+        }
+    }
+
+    /// What still has its dear price nobody likes: whoever holds the fewest of
+    /// the chores before it gets it.
+    fn open_the_rest(&mut self) {
+        let dear = self.difficult * self.difficult;
+        let mut held = [0; MAX_AGENTS];
+        for (owner, &price) in self.owner.iter_mut().zip(&self.price) {
+            if price == dear {
+                let mut fewest = 0;
+                for agent in 1..self.agents {
+                    if held[agent] < held[fewest] {
+                        fewest = agent;
+                    }
+                }
+                *owner = fewest as u8;
+            }
+            held[usize::from(*owner)] += 1;
         }
     }
 

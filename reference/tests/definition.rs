@@ -40,7 +40,20 @@ impl<'a> Slow<'a> {
                 }
             }
         }
+        for chore in 0..costs.chores {
+            if slow.price[chore] == costs.difficult * costs.difficult {
+                slow.owner[chore] = slow.holds_fewest_before(chore);
+            }
+        }
         slow
+    }
+
+    /// The lowest agent with no more of the chores before this one than any.
+    fn holds_fewest_before(&self, chore: usize) -> usize {
+        let count = |i: usize| self.owner[..chore].iter().filter(|&&j| j == i).count();
+        let agents = 0..self.costs.agents;
+        let has_fewest = |&i: &usize| agents.clone().all(|j| count(i) <= count(j));
+        agents.clone().find(has_fewest).unwrap()
     }
 
     fn prices_of(&self, agent: usize) -> Vec<u64> {
@@ -168,11 +181,11 @@ fn compare(sheet: &[u8]) -> usize {
 fn small_and_medium_sheets() {
     let mut random = Random::new(4);
     let mut moves_of_2a = 0;
-    for _ in 0..4_000 {
+    for _ in 0..8_000 {
         let (agents, chores) = (1 + random.below(8), random.below(25));
         moves_of_2a += compare(&random.sheet(agents, chores));
     }
-    for _ in 0..150 {
+    for _ in 0..300 {
         let (agents, chores) = (1 + random.below(32), random.below(81));
         moves_of_2a += compare(&random.sheet(agents, chores));
     }

@@ -54,7 +54,7 @@ fn random_small_sheets() {
     let mut random = Random::new(1);
     let mut most_cuts = 0;
     let mut all_moves = 0;
-    for _ in 0..6_000 {
+    for _ in 0..9_000 {
         let agents = 1 + random.below(6);
         let chores = random.below(1 + most_chores(agents, 20_000));
         let (moves, cuts) = judge_small(&random.sheet(agents, chores));

@@ -8,6 +8,7 @@ use reference::record::{self, MOVE_BYTES};
 use reference::share_out::opening;
 use reference::sheet::Sheet;
 use reference::{compose, ShareOut};
+use std::collections::BTreeSet;
 
 /// A sheet with its record, a row for each move.
 type Row = (Vec<u8>, &'static [[u8; MOVE_BYTES]]);
@@ -20,7 +21,8 @@ fn record_of(sheet: &[u8]) -> Vec<u8> {
 #[test]
 fn records_of_worked_sheets() {
     let of_2a = compose::sheet(1, 3, &["deddddddd", "ddddddddd", "ddeddddde"]);
-    let table: [Row; 8] = [
+    let by_count = compose::sheet(1, 3, &["eedd", "eddd"]);
+    let table: [Row; 9] = [
         (a(), &[]),
         (b(), &[[0, 1, 1, 2, 1, 2], [0, 2, 1, 2, 1, 2]]),
         (
@@ -31,6 +33,7 @@ fn records_of_worked_sheets() {
         (e(), &[]),
         (f(), &[[0, 1, 1, 2, 1, 2]]),
         (g(), &[[0, 1, 1, 3, 1, 2]]),
+        (by_count, &[[0, 3, 2, 1, 1, 2]]),
         (
             of_2a,
             &[
@@ -113,11 +116,19 @@ fn no_moves_need_no_record() {
 fn opening_of(sheet: &[u8]) -> Vec<u8> {
     let chores = usize::from(sheet[1]);
     let easy = |row: &[u8], chore: usize| row[chore] == b'e' || !row.contains(&b'e');
-    let owner = |chore: usize| {
-        let mut rows = sheet[6..].chunks(chores);
-        rows.position(|row| easy(row, chore)).unwrap_or(0) as u8 + 1
+    // Agents with the number of their chores first, so that the fewest lead.
+    let mut queue: BTreeSet<(usize, u8)> = (1..=sheet[0]).map(|agent| (0, agent)).collect();
+    let mut owner = |chore: usize| {
+        let mut rows = sheet[6..].chunks(chores).zip(1..);
+        let liking = rows.find(|(row, _)| easy(row, chore));
+        let agent = liking.map_or(queue.first().unwrap().1, |(_, agent)| agent);
+        let of_agent = |place: &&(usize, u8)| place.1 == agent;
+        let place = *queue.iter().find(of_agent).unwrap();
+        queue.remove(&place);
+        queue.insert((place.0 + 1, agent));
+        agent
     };
-    (0..chores).map(owner).collect()
+    (0..chores).map(&mut owner).collect()
 }
 
 /// Plays a record over the opening list: each giver owns what it hands over,

@@ -92,7 +92,7 @@ fn printed_cases() {
     let c = "moves 3 cuts 1 owners 2 2 1 1 2 prices 3 3 3 3 1";
     let wide = [" 2".repeat(100), " 1".repeat(100)].concat();
     let print = [
-        "n 32 moves 2 cuts 0 owners 2 3 1 prices 2 2 4",
+        "n 32 moves 1 cuts 0 owners 3 1 2 prices 2 2 4",
         "n 33 refused 1",
         &format!(
             "m 200 moves 100 cuts 0 owners{wide} prices{}",

@@ -22,6 +22,18 @@ fn sheet_c() {
 }
 
 #[test]
+fn chores_that_nobody_likes() {
+    let sheet = compose::sheet(1, 3, &["eedd", "eddd"]);
+    let print = "sheet 1 moves 1 cuts 0\n\
+                 opening 1 1 2 2\n\
+                 reel 3 from 2 to 1 round 1 step 2\n\
+                 owners 1 1 1 2\n\
+                 prices 3 3 9 9\n\
+                 total moves 1 cuts 0\n";
+    assert_eq!(why(&compose::book(&[sheet])), print);
+}
+
+#[test]
 fn a_move_of_step_2a() {
     let sheet = compose::sheet(1, 3, &["deddddddd", "ddddddddd", "ddeddddde"]);
     let print = "sheet 1 moves 7 cuts 2\n\

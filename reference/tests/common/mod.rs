@@ -76,11 +76,12 @@ impl Random {
         }
     }
 
-    /// Rows of either shape below.
+    /// Rows of any shape below.
     pub fn rows(&mut self, agents: usize, chores: usize) -> Vec<String> {
-        match self.below(2) {
+        match self.below(3) {
             0 => self.rows_of_tempers(agents, chores),
-            _ => self.rows_of_blocks(agents, chores),
+            1 => self.rows_of_blocks(agents, chores),
+            _ => self.rows_of_few_liked(agents, chores),
         }
     }
 
@@ -110,6 +111,25 @@ impl Random {
             home.iter().map(easy).map(mark).collect()
         };
         (0..agents).map(&mut row).collect()
+    }
+
+    /// Few chores are easy for anybody. Each agent likes one of them at least,
+    /// or its row would be read as all easy.
+    fn rows_of_few_liked(&mut self, agents: usize, chores: usize) -> Vec<String> {
+        let liked: Vec<usize> = (0..chores.div_ceil(4))
+            .map(|_| self.below(chores))
+            .collect();
+        let mut row = || {
+            let mut row = vec![false; chores];
+            for &chore in &liked {
+                row[chore] = self.below(3) == 0;
+            }
+            if chores > 0 {
+                row[liked[self.below(liked.len())]] = true;
+            }
+            row.into_iter().map(mark).collect()
+        };
+        (0..agents).map(|_| row()).collect()
     }
 
     pub fn sheet(&mut self, agents: usize, chores: usize) -> Vec<u8> {
