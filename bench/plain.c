@@ -195,12 +195,23 @@ typedef struct {
     uint64_t moves;
 } Run;
 
-/* Each chore goes to the first agent who finds it easy, else to the first of
- * all. A row of difficult marks only is read as all easy. That changes no
- * best chore, so it is of no account later. */
+/* The first of the agents who hold the fewest chores. */
+static size_t holder_of_fewest(const size_t *held, size_t agents)
+{
+    size_t fewest = 0;
+    for (size_t i = 1; i < agents; i++)
+        if (held[i] < held[fewest])
+            fewest = i;
+    return fewest;
+}
+
+/* Each chore goes to the first agent who finds it easy, else to whoever holds
+ * the fewest of the chores before it. A row of difficult marks only is read as
+ * all easy. That changes no best chore, so it is of no account later. */
 static void open_market(Market *market)
 {
     bool likes_none[SHARES_MAX_AGENTS];
+    size_t held[SHARES_MAX_AGENTS] = {0};
     for (size_t i = 0; i < market->agents; i++)
         likes_none[i] = memchr(market->marks + i * market->chores, 'e', market->chores) == NULL;
     for (size_t c = 0; c < market->chores; c++) {
@@ -208,7 +219,10 @@ static void open_market(Market *market)
         while (i < market->agents && !likes_none[i] && !finds_easy(market, i, c))
             i++;
         bool liked = i < market->agents;
-        market->owner[c] = liked ? (uint8_t)i : 0;
+        if (!liked)
+            i = holder_of_fewest(held, market->agents);
+        held[i]++;
+        market->owner[c] = (uint8_t)i;
         market->price[c] = (liked ? market->easy : market->difficult) * market->difficult;
     }
 }
