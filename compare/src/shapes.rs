@@ -2,6 +2,8 @@
 
 use crate::random::{weights, Random};
 use reference::compose;
+use reference::costs::Costs;
+use reference::sheet::Sheet;
 
 /// What the rows of a sheet are like.
 #[derive(Debug, Clone, Copy, PartialEq, Eq)]
@@ -100,18 +102,20 @@ fn shuffle<T>(random: &mut Random, list: &mut [T]) {
 }
 
 fn dear(random: &mut Random, agents: usize, chores: usize) -> Likes {
-    let liked = (chores / (2 + random.below(5))).max(1);
+    // Anywhere, so that liked chores open before the others, between and after.
+    let mut liked: Vec<usize> = (0..chores).collect();
+    shuffle(random, &mut liked);
+    liked.truncate((chores / (2 + random.below(5))).max(1));
     let percent = [5, 30, 60][random.below(3)];
     let mut row = |_| {
-        let mut row: Vec<bool> = (0..chores)
-            .map(|chore| chore < liked && random.chance(percent))
-            .collect();
+        let mut row = vec![false; chores];
+        for &chore in &liked {
+            row[chore] = random.chance(percent);
+        }
         // Otherwise the row may be read as all easy.
         if chores > 0 {
-            row[random.below(liked)] = true;
+            row[liked[random.below(liked.len())]] = true;
         }
-        let turn = random.below(3).min(chores);
-        row.rotate_right(turn);
         row
     };
     (0..agents).map(&mut row).collect()
@@ -144,8 +148,21 @@ pub fn sheet(random: &mut Random, shape: Shape, agents: usize, chores: usize) ->
     compose::sheet(easy, difficult, &rows(random, shape, agents, chores))
 }
 
+/// Often one in which most chores open by count, since nobody likes them.
 pub fn any_shape(random: &mut Random) -> Shape {
+    if random.chance(40) {
+        return Shape::Dear;
+    }
     SHAPES[random.below(SHAPES.len())]
+}
+
+/// Whether half of the chores or more, and three at least, are difficult for
+/// everybody, as the share-out reads the sheet.
+pub fn is_dear(sheet: &Sheet) -> bool {
+    let costs = Costs::as_read(sheet);
+    let dear = |&chore: &usize| !(0..costs.agents).any(|agent| costs.finds_easy(agent, chore));
+    let count = (0..costs.chores).filter(dear).count();
+    count >= 3 && 2 * count >= costs.chores
 }
 
 /// Up to 6 agents and 13 chores.

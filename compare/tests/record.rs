@@ -81,10 +81,11 @@ fn record_lengths(random: &mut Random, exact: usize, most: u64) -> [usize; 5] {
     [exact, exact.saturating_sub(1), longer, 0, room]
 }
 
-/// How many sheets took a move, the most moves and the last round of any, and
-/// the moves of step 2a of all.
+/// How many sheets have many chores that nobody likes, how many took a move, the
+/// most moves and the last round of any, and the moves of step 2a of all.
 #[derive(Debug, Default)]
 struct Seen {
+    dear: usize,
     moved: usize,
     moves: usize,
     round: u8,
@@ -92,7 +93,8 @@ struct Seen {
 }
 
 impl Seen {
-    fn add(&mut self, record: &[u8]) {
+    fn add(&mut self, sheet: &Sheet, record: &[u8]) {
+        self.dear += usize::from(shapes::is_dear(sheet));
         self.moved += usize::from(!record.is_empty());
         self.moves = self.moves.max(record.len() / MOVE_BYTES);
         for entry in record.chunks_exact(MOVE_BYTES) {
@@ -108,7 +110,8 @@ fn records_of_every_length() {
     let mut seen = Seen::default();
     for _ in 0..SHEETS {
         let sheet = shapes::any_sheet(&mut random);
-        let recorded = record::work(&Sheet::parse(&sheet).expect("the sheet keeps the rules"));
+        let parsed = Sheet::parse(&sheet).expect("the sheet keeps the rules");
+        let recorded = record::work(&parsed);
         let exact = recorded.record.len();
         for length in record_lengths(&mut random, exact, most_moves(&sheet)) {
             let work = |_: &Sheet| recorded.clone();
@@ -117,9 +120,10 @@ fn records_of_every_length() {
             let fits = if length < exact { refusal::RECORD } else { 0 };
             assert_eq!(number, fits, "{sheet:?}, a record of {length}");
         }
-        seen.add(&recorded.record);
+        seen.add(&parsed, &recorded.record);
     }
     println!("{seen:?}");
+    assert!(seen.dear > SHEETS / 3, "{seen:?}");
     assert!(seen.moved > SHEETS / 2 && seen.moved < SHEETS, "{seen:?}");
     assert!(seen.moves > 150 && seen.round > 8, "{seen:?}");
     assert!(seen.of_2a > 1_000, "{seen:?}");

@@ -47,14 +47,29 @@ fn compared(random: &mut Random, way: Way, sheet: &[u8], lengths: Lengths) -> Sh
     answer
 }
 
-/// How many sheets took a cut, the most moves and cuts of any, and the greatest
-/// part of each bound on moves that any came to.
+/// How many sheets have many chores that nobody likes, how many took a cut, the
+/// most moves and cuts of any, and the greatest part of each bound on moves that
+/// any came to.
 #[derive(Debug, Default)]
 struct Seen {
+    dear: usize,
     cut: usize,
     moves: u64,
     cuts: u8,
     parts: [f64; 2],
+}
+
+impl Seen {
+    fn add(&mut self, sheet: &[u8], moves: u64, cuts: u8) {
+        let parsed = Sheet::parse(sheet).expect("the sheet was accepted");
+        self.dear += usize::from(shapes::is_dear(&parsed));
+        self.cut += usize::from(cuts > 0);
+        self.moves = self.moves.max(moves);
+        self.cuts = self.cuts.max(cuts);
+        for (seen, part) in self.parts.iter_mut().zip(parts(sheet, moves, cuts)) {
+            *seen = part.max(*seen);
+        }
+    }
 }
 
 fn compare_all(seed: u64, count: usize, way: Way, sheet: impl Fn(&mut Random) -> Vec<u8>) -> Seen {
@@ -65,17 +80,11 @@ fn compare_all(seed: u64, count: usize, way: Way, sheet: impl Fn(&mut Random) ->
         let lengths = enough(&mut random, usize::from(sheet[1]));
         match compared(&mut random, way, &sheet, lengths) {
             ShareOut::Refused(number) => panic!("refused {number}: {sheet:?}"),
-            ShareOut::Shared { moves, cuts } => {
-                seen.cut += usize::from(cuts > 0);
-                seen.moves = seen.moves.max(moves);
-                seen.cuts = seen.cuts.max(cuts);
-                for (seen, part) in seen.parts.iter_mut().zip(parts(&sheet, moves, cuts)) {
-                    *seen = part.max(*seen);
-                }
-            }
+            ShareOut::Shared { moves, cuts } => seen.add(&sheet, moves, cuts),
         }
     }
     println!("{seen:?}");
+    assert!(seen.dear > count / 3, "{seen:?}");
     seen
 }
 
@@ -100,7 +109,7 @@ fn large_sheets() {
 #[test]
 fn largest_sheets() {
     let shape = |random: &mut Random| {
-        let shape = if random.chance(50) {
+        let shape = if random.chance(30) {
             Shape::Ladder
         } else {
             shapes::any_shape(random)
