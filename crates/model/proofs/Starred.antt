@@ -23,4 +23,4 @@ pub starred : MeetsAll table
 unfolding table sheetC sheetD sheetE sheet2a agents chores tooMany sheet marks allMarks firstRow Meets MeetsAll Computed ComputedAll seen isDone differs dominatesToo sumTo maxTo minTo sumWhere maxWhere anyBelow allBelow firstStep firstBelow chosen tabulate someList wordAt reach cost ownerOf priceOf agentsOf choresOf easyWeight difficultWeight markAt isDifficult marksEasy sheetLength allDifficult asMarked asRead owns holdsAny countTo total costTo costWithout fair ef1 dominates ownersInRange isAllocation dominated ratioAtMost best dearest priceUpToOne held fewest opensWith openedBefore openingOwner openingPrice opening group isEntitled giver2a receiver2a due2a chore2a action2a leastSum above supplies ofLeastSum within reachable atDistance ring2b due2b giver2b receiver2b chore2b action2b action handed passed inNewGroup afterCut result step next after roundOf stepOf handsOver nextMoves movesIn moveBytes recordOf _orElse_ isMark headerRefusal sheetRefusal ownersRefusal pricesInRange pricesRefusal lentRefusal allocateRefusal recordRefusal recordedRefusal listRefusal priceRefusal firstOfPair secondOfPair unlessRefused envies listVerdict firstOffPrice enviesByPrice priceVerdict listCheck priceCheck
 starred =
     met-all 16 table
-    ((refl, refl), ((refl, refl), ((refl, refl), ((refl, refl), ((refl, refl), ((refl, refl), ((refl, refl), ((refl, refl), ((refl, refl), ((refl, refl), ((refl, refl), ((refl, refl), ((refl, refl), (refl, (refl, (refl, ((refl, refl, refl), (refl, (refl, (refl, (refl, (refl, (refl, (refl, (refl, (refl, (refl, (refl, (refl, (refl, (refl, (refl, ((refl, refl, refl), ((refl, refl, refl), (refl, (refl, (refl, tt)))))))))))))))))))))))))))))))))))))
+    ((refl, refl), ((refl, refl), ((refl, refl), ((refl, refl), ((refl, refl), ((refl, refl), ((refl, refl), ((refl, refl), ((refl, refl), ((refl, refl), ((refl, refl), ((refl, refl), ((refl, refl), ((refl, refl), (refl, (refl, (refl, ((refl, refl, refl), (refl, (refl, (refl, (refl, (refl, (refl, (refl, (refl, (refl, (refl, (refl, (refl, (refl, (refl, (refl, ((refl, refl, refl), ((refl, refl, refl), (refl, (refl, (refl, tt))))))))))))))))))))))))))))))))))))))

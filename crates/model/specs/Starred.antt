@@ -48,9 +48,11 @@ table =
     ∷ shared-out (sheet 2 3 ("ddddddddd" ∷ "edededddd" ∷ "edddddddd" ∷ [])) (3 ∷ 2 ∷ 2 ∷ 3 ∷ 2 ∷ 3 ∷ 1 ∷ 1 ∷ 1 ∷ []) (4 ∷ 6 ∷ 4 ∷ 6 ∷ 4 ∷ 6 ∷ 6 ∷ 6 ∷ 6 ∷ []) 8 2
     -- equal sums in 2a
     ∷ shared-out (sheet 1 3 ("ddedddddd" ∷ "ddddddddd" ∷ "dddddeddd" ∷ "edddddddd" ∷ "edddddddd" ∷ [])) (4 ∷ 1 ∷ 1 ∷ 4 ∷ 5 ∷ 3 ∷ 3 ∷ 2 ∷ 2 ∷ []) (1 ∷ 3 ∷ 1 ∷ 3 ∷ 3 ∷ 1 ∷ 3 ∷ 3 ∷ 3 ∷ []) 7 2
-    -- document 02, request 2: three chores that all find difficult, opened by counts; and one of them after a chore that opened as easy
+    -- document 02, request 2: three chores that all find difficult, so that counts decide; one after a chore that opened as easy and counts too;
+    -- two where the agent of fewest chores is not that of least sum
     ∷ shared-out (sheet 1 3 ("ddded" ∷ "dddde" ∷ "dddee" ∷ [])) (1 ∷ 2 ∷ 3 ∷ 1 ∷ 2 ∷ []) (9 ∷ 9 ∷ 9 ∷ 3 ∷ 3 ∷ []) 0 0
     ∷ shared-out (sheet 1 3 ("edd" ∷ "dde" ∷ [])) (1 ∷ 2 ∷ 2 ∷ []) (3 ∷ 9 ∷ 3 ∷ []) 0 0
+    ∷ shared-out (sheet 1 3 ("eedd" ∷ "eddd" ∷ [])) (1 ∷ 1 ∷ 1 ∷ 2 ∷ []) (3 ∷ 3 ∷ 9 ∷ 9 ∷ []) 1 0
     -- the list check
     ∷ listed sheetD (1 ∷ 1 ∷ 1 ∷ []) (unfair 1 2)
     ∷ listed sheetD (1 ∷ 1 ∷ 2 ∷ []) holds
