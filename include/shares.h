@@ -45,10 +45,10 @@ extern "C" {
 #endif
 
 /* The release that this header is of. */
-#define SHARES_VERSION "6.2.5"
+#define SHARES_VERSION "6.2.6"
 #define SHARES_VERSION_MAJOR 6
 #define SHARES_VERSION_MINOR 2
-#define SHARES_VERSION_PATCH 5
+#define SHARES_VERSION_PATCH 6
 
 /* Limits: 1 to 32 agents, 0 to 200 chores, 1 <= a < b <= 1,000. */
 #define SHARES_MAX_AGENTS 32
@@ -136,9 +136,11 @@ uint8_t shares_allocate(const uint8_t *sheet, size_t sheet_len,
  *   4         the round, from 1; each price cut begins the next one
  *   5         the step: 1 for step 2a, between cut groups, 2 for step 2b
  *
- * The run opens with each chore at the first agent who finds it easy, or else at
- * agent 1, where a row of difficult marks only is read as all easy. The moves,
- * made one after the other from there, give the owners that are returned.
+ * The run opens with the chores in order of number: one that somebody finds easy
+ * is at the first agent who does, any other at the first of those who then hold
+ * the fewest chores. For that a row of difficult marks only is read as all easy.
+ * The moves, made one after the other from there, give the owners that are
+ * returned.
  * Returns a refusal number: 5 for a sheet of fewer than 6 bytes, 1, 2, 3, 5, 4,
  * 8, 11.
  */

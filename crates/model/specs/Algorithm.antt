@@ -57,11 +57,12 @@ module _ (I : Instance) where
     opensWith =
         cond (anyBelow (I .n) (λ i. I .easy i c)) (firstBelow (I .n) (λ i. I .easy i c)) fewest
 
-  -- "going through the reels by number": the agents with whom the chores before c open
+  -- "going through the reels by number": the owners of the chores before c, in the opening
   unfoldable pub openedBefore : ℕ → List ℕ
   openedBefore zero = []
   openedBefore (suc c) = openedBefore c ++ (opensWith (λ d. getD (openedBefore c) d 0) c ∷ [])
 
+  -- the agent with whom chore c opens
   unfoldable pub openingOwner : ℕ → ℕ
   openingOwner c = opensWith (λ d. getD (openedBefore c) d 0) c
 
