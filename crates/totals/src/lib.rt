@@ -1,4 +1,4 @@
-// Price sums of all agents, in one pass over the chores.
+// Sums of all agents: price sums, in one pass over the chores, and the first sum that is below a limit or the least.
 ghost use mathlib.Core.Bool.{true};
 ghost use mathlib.Core.Path.{_≡_};
 ghost use Prim.Native.Nat.{_≤_, _<_};

@@ -21,15 +21,15 @@ Inv-loop sheet n m owners₀ prices₀ likes₀ a b all anyone held₀ c₀ owne
 abbrev μ-loop : tie.MeasureT-loop
 μ-loop sheet n m owners₀ prices₀ likes₀ a b all anyone held₀ c₀ owners prices likes held c = m - c
 
--- the way back from the loop's start, from a turn, and from where the chore's owner is known
-abbrev start : tie.After-zeros Inv-loop μ-loop → tie.Start Inv-loop μ-loop
-start c = c .before .before .before .before .before .before .before .before .before
-
+-- the way back from where a chore's owner is known to its turn, from there to what comes before the loop, and to the start
 abbrev turn : tie.After-opens-with Inv-loop μ-loop → tie.In-loop Inv-loop μ-loop
 turn c = c .before .before .before
 
-abbrev opened : tie.In-loop Inv-loop μ-loop → tie.After-zeros Inv-loop μ-loop
-opened c = c .before .before
+abbrev begun : tie.After-opens-with Inv-loop μ-loop → tie.After-zeros Inv-loop μ-loop
+begun c = turn c .before .before
+
+abbrev start : tie.After-zeros Inv-loop μ-loop → tie.Start Inv-loop μ-loop
+start c = c .before .before .before .before .before .before .before .before .before
 
 easy-weight-requires : tie.Need-easy-weight-requires Inv-loop μ-loop
 easy-weight-requires c κs = search needs
@@ -58,19 +58,18 @@ easy-for-requires c κs = search needs
 opens-with-requires : tie.Need-opens-with-requires Inv-loop μ-loop
 opens-with-requires c κs = search needs
 
-owner-is : (c : tie.After-opens-with Inv-loop μ-loop) → c .opens-with .result ≡ openingOwner (asRead (start (opened (turn c)) .args .sheet .now)) (turn c .before .loop .c)
+owner-is : (c : tie.After-opens-with Inv-loop μ-loop) → c .opens-with .result ≡ openingOwner (asRead (start (begun c) .args .sheet .now)) (turn c .before .loop .c)
 owner-is c =
-    let on = start (opened (turn c)) .pre .on in
+    let on = start (begun c) .pre .on in
     let loop = turn c .before .loop in
-    owner-opens (start (opened (turn c)) .args .sheet .now) (loop .c) (on .agents) (c .before .before .easy-for .ensures) (on .valid .agentsFit) (loop .inv .1 .counted) (c .opens-with .ensures)
+    owner-opens (start (begun c) .args .sheet .now) (loop .c) (on .agents) (c .before .before .easy-for .ensures) (on .valid .agentsFit) (loop .inv .1 .counted) (c .opens-with .ensures)
 
 -- the owner is an agent, so has a count, and its number fits a byte
 owner-fits : (c : tie.After-opens-with Inv-loop μ-loop) → c .opens-with .result < maxAgents
 unfolding asRead
 owner-fits c =
-    let start = start (opened (turn c)) in
-    let valid = start .pre .on .valid in
-    omega (arith, owner-is c, owner-some (asRead (start .args .sheet .now)) (turn c .before .loop .c) (valid .someAgent), valid .agentsFit)
+    let valid = start (begun c) .pre .on .valid in
+    omega (arith, owner-is c, owner-some (asRead (start (begun c) .args .sheet .now)) (turn c .before .loop .c) (valid .someAgent), valid .agentsFit)
 
 mul-held : tie.Need-mul-held Inv-loop μ-loop
 mul-held c = omega (arith, owner-fits c)
@@ -80,9 +79,8 @@ array-read-held c = omega (arith, owner-fits c)
 
 add-held : tie.Need-add-held Inv-loop μ-loop
 add-held c =
-    let begun = start (opened (turn c)) in
-    let few = begun .pre .on in
-    record { fits = omega (arith, count-room (turn c .before .loop .inv .1) (owner-fits c), few .chores, few .valid .choresFit) }
+    let on = start (begun c) .pre .on in
+    record { fits = omega (arith, count-room (turn c .before .loop .inv .1) (owner-fits c), on .chores, on .valid .choresFit) }
 
 array-write-held : tie.Need-array-write-held Inv-loop μ-loop
 array-write-held c = omega (arith, owner-fits c)
@@ -98,8 +96,7 @@ slice-write-owners c = search needs
 
 mul-prices : tie.Need-mul-prices Inv-loop μ-loop
 mul-prices c =
-    let begun = opened (turn (c .before)) in
-    let weight = begun .before .before .before .difficult-weight in
+    let weight = begun (c .before) .before .before .before .difficult-weight in
     let b : weight .result ≤ 65535 = omega (arith, weight .ensures .below) in
     omega (arith, mul-le-mul b b)
 
@@ -117,9 +114,9 @@ slice-write-likes c = search needs
 
 mul-prices-3 : tie.Need-mul-prices-3 Inv-loop μ-loop
 mul-prices-3 c =
-    let begun = opened (turn (c .before)) .before .before .before in
-    let a : begun .before .easy-weight .result ≤ 65535 = omega (arith, begun .before .easy-weight .ensures .below) in
-    let b : begun .difficult-weight .result ≤ 65535 = omega (arith, begun .difficult-weight .ensures .below) in
+    let weights = begun (c .before) .before .before .before in
+    let a : weights .before .easy-weight .result ≤ 65535 = omega (arith, weights .before .easy-weight .ensures .below) in
+    let b : weights .difficult-weight .result ≤ 65535 = omega (arith, weights .difficult-weight .ensures .below) in
     omega (arith, mul-le-mul a b)
 
 mul-prices-4 : tie.Need-mul-prices-4 Inv-loop μ-loop
@@ -144,16 +141,16 @@ loop-again : tie.Need-loop-again Inv-loop μ-loop
 loop-again c =
     let known = c .before in
     let loop = turn known .before .loop in
-    let begun = opened (turn known) in
-    let s = start begun .args .sheet .now in
-    let on = start begun .pre .on in
+    let s = start (begun known) .args .sheet .now in
+    let on = start (begun known) .pre .on in
     let l : loop .c < choresOf s = omega (arith, on .chores) in
     let easy = known .before .before .easy-for .ensures in
-    let b = begun .before .before .before .difficult-weight .ensures .is in
-    let a = begun .before .before .before .before .easy-weight .ensures .is in (
+    let weights = begun known .before .before .before in
+    let a = weights .before .easy-weight .ensures .is in
+    let b = weights .difficult-weight .ensures .is in (
       omega arith,
       ⊎-elim
-          (λ w. rw (w .1, w .2) (opens-next (loop .inv .1) l (owner-is known) (owner-fits known) (opens-dear s (loop .c) (on .agents) easy (w .0 .taken) b (begun .before .everyone .ensures))))
+          (λ w. rw (w .1, w .2) (opens-next (loop .inv .1) l (owner-is known) (owner-fits known) (opens-dear s (loop .c) (on .agents) easy (w .0 .taken) b (begun known .before .everyone .ensures))))
           (λ w. rw (w .1, w .2) (opens-next (loop .inv .1) l (owner-is known) (owner-fits known) (opens-easy s (loop .c) (on .agents) easy (w .0 .left) a b)))
           (c .if1 .came),
     )
@@ -169,9 +166,9 @@ same-length-3 c = search needs
 
 returns : tie.Need-returns Inv-loop μ-loop
 returns c =
-    let begun = start (c .before .before) in
-    let end : c .before .loop .c ≡ begun .args .m = omega arith in
-    opens-all (rw (end, begun .pre .on .chores) at (c .before .loop .inv .1))
+    let from = start (c .before .before) in
+    let end : c .before .loop .c ≡ from .args .m = omega arith in
+    opens-all (rw (end, from .pre .on .chores) at (c .before .loop .inv .1))
 
 pub open-spec : {M : Type 1} → statement M
 open-spec =
