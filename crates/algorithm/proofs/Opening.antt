@@ -5,19 +5,20 @@ use mathlib.Core.Bool.{Bool, true, false, cond, not, _&&_}
 use mathlib.Core.List.{[], _∷_, _++_}
 use mathlib.Core.Path.{_≡_, refl, sym, ap, ap₂, _∙_}
 use native.Mathlib.Omega.{arith}
-use lib.Dec.{eqb, ltb}
+use lib.Dec.{ltb}
 use lib.ListN.{length, getD, length-replicate, getD-replicate}
+use Rattle.finite.specs.Sums.{sumWhere, countTo}
 use Rattle.finite.specs.Search.{anyBelow, firstBelow, Hit}
 use Rattle.finite.specs.Lists.{tabulate, Picks}
 use Rattle.finite.proofs.Tests.{by-test, clash, and-intro, or-left, or-right, not-on, cond-not}
 use Rattle.finite.proofs.Search.{any-elim, first-some, first-passes}
 use Rattle.finite.proofs.Lists.{tab-length, tab-at}
-use Rattle.finite.proofs.Counts.{count-cong}
 use Rattle.finite.proofs.Chosen.{chosen-cong}
 use Rattle.finite.proofs.Running.{smallest-some}
 use Rattle.model.specs.Instance.{Instance, ownerOf, priceOf}
-use Rattle.model.specs.Fairness.{owns, held}
+use Rattle.model.specs.Fairness.{bundleSize, total}
 use Rattle.model.specs.Algorithm.{fewest, opensWith, openedBefore, openingOwner, openingPrice, opening, owner, price, group, isEntitled}
+use Rattle.welfare.proofs.Domination.{total-cong}
 use Rattle.algorithm.specs.Kinds.{Sound, dear, ok, level, kindPrice}
 use Rattle.algorithm.specs.Core.{Core}
 use Rattle.algorithm.specs.Opened.{Opened}
@@ -62,15 +63,15 @@ module _ {I : Instance} {x p : ℕ → ℕ} (o : Opened I x p) where
 
 -- a chore's opening goes by the owners of the chores before it alone
 module _ {x y : ℕ → ℕ} (c : ℕ) (same : (d : ℕ) → d < c → x d ≡ y d) where
-  held-cong : (i : ℕ) → held c x i ≡ held c y i
-  unfolding held owns
-  held-cong i = count-cong c (λ d l. ap (λ o. eqb o i) (same d l))
+  size-cong : (i : ℕ) → bundleSize c x i ≡ bundleSize c y i
+  unfolding bundleSize countTo total sumWhere
+  size-cong i = total-cong c x y (λ d. 1) i same
 
   opens-cong : (I : Instance) → opensWith I x c ≡ opensWith I y c
   unfolding opensWith fewest
   opens-cong I =
       ap (cond (anyBelow (I .n) (λ i. I .easy i c)) (firstBelow (I .n) (λ i. I .easy i c)))
-      (chosen-cong (I .n) (λ i l. refl) (λ j i k l. ap₂ ltb (held-cong j) (held-cong i)))
+      (chosen-cong (I .n) (λ i l. refl) (λ j i k l. ap₂ ltb (size-cong j) (size-cong i)))
 
 -- Algorithm 1's opening
 module _ (I : Instance) where
@@ -124,11 +125,11 @@ module _ (I : Instance) where
       let l = first-some t (r .index) (r .below) (r .passes) in
       rw e (l, first-passes (I .n) t l)
 
-  pub owner-some : (c : ℕ) → 0 < I .n → openingOwner I c < I .n
+  pub opening-below : (c : ℕ) → 0 < I .n → openingOwner I c < I .n
   unfolding openingOwner opensWith fewest
-  owner-some c some =
+  opening-below c some =
       by-test (anyBelow (I .n) (λ i. I .easy i c)) (λ e. owner-easy c e .0)
-      (λ e. rw e (smallest-some (λ i. true) (λ i. held c (λ d. getD (openedBefore I c) d 0) i) 0 some refl))
+      (λ e. rw e (smallest-some (λ i. true) (bundleSize c (λ d. getD (openedBefore I c) d 0)) 0 some refl))
 
   pub opening-picks : 0 < I .n → Picks (I .n) (I .m) (opening I .owners)
   unfolding opening
@@ -136,13 +137,13 @@ module _ (I : Instance) where
       record {
         size = opening-owners-length;
         positive = λ c h. omega (arith, tab-at (λ c. openingOwner I c + 1) c 0 h);
-        bounded = λ c h. omega (arith, tab-at (λ c. openingOwner I c + 1) c 0 h, owner-some c some);
+        bounded = λ c h. omega (arith, tab-at (λ c. openingOwner I c + 1) c 0 h, opening-below c some);
       }
 
   pub opening-opened : 0 < I .n → Opened I (owner I (opening I)) (price I (opening I))
   opening-opened some =
       record {
-        owned = λ c h. rw (opening-owner c h) (owner-some c some);
+        owned = λ c h. rw (opening-owner c h) (opening-below c some);
         priced = opening-price;
         easyWhereCan = λ c h e. rw (opening-owner c h) (owner-easy c e .1);
       }

@@ -7,7 +7,7 @@ use native.Mathlib.Nat.{mul-pos, mul-le-mul-right, suc-mul}
 use native.Mathlib.Omega.{arith}
 use lib.Dec.{eqb}
 use borrow.Author.Tests.{eqb-true}
-use Rattle.finite.specs.Sums.{sumWhere, countTo}
+use Rattle.finite.specs.Sums.{sumWhere}
 use Rattle.finite.proofs.Tests.{and-intro, not-on}
 use Rattle.finite.proofs.Below.{by-less}
 use Rattle.finite.proofs.Sums.{sum-cong}
@@ -16,7 +16,7 @@ use Rattle.finite.proofs.Counts.{where-const}
 use Rattle.finite.proofs.Extremes.{Low}
 use Rattle.finite.proofs.Fibres.{fibres-of}
 use Rattle.model.specs.Instance.{Instance}
-use Rattle.model.specs.Fairness.{owns, total}
+use Rattle.model.specs.Fairness.{owns, bundleSize, total}
 use Rattle.model.specs.Prices.{priceSum}
 use Rattle.model.specs.Step2b.{leastSum, reachable, due2b}
 use Rattle.algorithm.specs.Kinds.{Sound}
@@ -36,8 +36,8 @@ held-by n m x p t h = sum-cong n (λ i l. sym (one (t i) i)) ∙ fibres-of n m x
     one false i = where-zeros m (λ c. eqb (x c) i) (λ c l o. refl)
 
 -- chores of one price
-sum-count : (m b : ℕ) (x p : ℕ → ℕ) (i : ℕ) → ((c : ℕ) → c < m → x c ≡ i → p c ≡ b) → priceSum m x p i ≡ countTo m (owns x i) * b
-unfolding total owns
+sum-count : (m b : ℕ) (x p : ℕ → ℕ) (i : ℕ) → ((c : ℕ) → c < m → x c ≡ i → p c ≡ b) → priceSum m x p i ≡ bundleSize m x i * b
+unfolding total owns bundleSize
 sum-count m b x p i h = where-value m (owns x i) (λ c l o. h c l (eqb-true (x c) i o)) ∙ where-const m b (owns x i)
 
 -- a greater multiple is greater by b at least
@@ -67,7 +67,7 @@ module _ {I : Instance} {x p group : ℕ → ℕ} {cut : ℕ → Bool} (S : Soun
       (where-wider (I .m) (λ c. reachable I x p (x₀ c)) (λ c. reachable I x p (x c)) p kept)
 
   -- what somebody outside the groups holds comes to a multiple of the one price, with either owners
-  multiple : {z : ℕ → ℕ} → Core I z p group cut → (i : ℕ) → group i ≡ 0 → priceSum (I .m) z p i ≡ countTo (I .m) (owns z i) * (I .a * I .b)
+  multiple : {z : ℕ → ℕ} → Core I z p group cut → (i : ℕ) → group i ≡ 0 → priceSum (I .m) z p i ≡ bundleSize (I .m) z i * (I .a * I .b)
   multiple {z} M i g =
       sum-count (I .m) (I .a * I .b) z p i λ c l o.
       one-price S M (B .someGroup) c l (free-uncut M c l (ap group o ∙ g))
@@ -86,7 +86,7 @@ module _ {I : Instance} {x p group : ℕ → ℕ} {cut : ℕ → Bool} (S : Soun
         let l = lowest .index in
         let now = multiple K l (free l (lowest .below) found) in
         let old = multiple (B .core) i g in
-        let more = next-multiple (I .a * I .b) (countTo (I .m) (owns x l)) (countTo (I .m) (owns x₀ i)) (omega (arith, lowest .value, B .rest i hi g)) in
+        let more = next-multiple (I .a * I .b) (bundleSize (I .m) x l) (bundleSize (I .m) x₀ i) (omega (arith, lowest .value, B .rest i hi g)) in
         omega (arith, lowest .value)
 
     has : (i : ℕ) → i < I .n → reachable I x p i ≡ true → priceSum (I .m) x p i ≤ leastSum I x p + I .a * I .b

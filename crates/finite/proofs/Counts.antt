@@ -9,7 +9,7 @@ use borrow.Author.Tests.{not-false}
 use Rattle.finite.specs.Sums.{sumTo, sumWhere, countTo}
 use Rattle.finite.proofs.Tests.{not-yes}
 use Rattle.finite.proofs.Sums.{sum-const}
-use Rattle.finite.proofs.Where.{where-test, where-value, where-wider, where-strict-test, where-le-sum, where-none, where-not, where-change, where-point, where-scale}
+use Rattle.finite.proofs.Where.{where-value, where-wider, where-strict-test, where-le-sum, where-none, where-not, where-change, where-point, where-scale}
 
 pub ones : (n : ℕ) → sumTo n (λ c. 1) ≡ n
 ones n = sum-const n 1 ∙ mul-one n
@@ -17,10 +17,6 @@ ones n = sum-const n 1 ∙ mul-one n
 pub count-le : (n : ℕ) (t : ℕ → Bool) → countTo n t ≤ n
 unfolding countTo sumWhere
 count-le n t = rw (ones n) at (where-le-sum n t (λ c. 1))
-
-pub count-cong : (n : ℕ) {t u : ℕ → Bool} → ((c : ℕ) → c < n → t c ≡ u c) → countTo n t ≡ countTo n u
-unfolding countTo sumWhere
-count-cong n h = where-test n (λ c. 1) h
 
 pub count-mono : (n : ℕ) (t u : ℕ → Bool) → ((c : ℕ) → c < n → t c ≡ true → u c ≡ true) → countTo n t ≤ countTo n u
 unfolding countTo sumWhere

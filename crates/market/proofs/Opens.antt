@@ -23,7 +23,7 @@ use Rattle.finite.proofs.Counts.{count-le}
 use Rattle.finite.proofs.Sweeps.{sums-none, sums-next}
 use Rattle.model.specs.Limits.{maxAgents}
 use Rattle.model.specs.Sheet.{agentsOf, choresOf, easyWeight, difficultWeight, asRead}
-use Rattle.model.specs.Fairness.{owns, held}
+use Rattle.model.specs.Fairness.{owns, bundleSize}
 use Rattle.model.specs.Algorithm.{fewest, opensWith, openingOwner, openingPrice}
 use Rattle.algorithm.specs.Kinds.{dear, ok}
 use Rattle.algorithm.proofs.Opening.{opens-after}
@@ -47,11 +47,11 @@ module _ (s : List ℕ) (c : ℕ) {n easy : ℕ} (e : n ≡ agentsOf s) (found :
   some : (easy ≡ 0 → ⊥) → anyBelow (agentsOf s) (λ i. asRead s .easy i c) ≡ true
   some z = some-easy ∙ ap not (ne-eqb easy 0 z)
 
-  pub owner-opens : {counts : List ℕ} {owner : ℕ} → agentsOf s ≤ maxAgents → Table maxAgents (held c (openingOwner (asRead s))) counts → OpensWith n easy counts owner → owner ≡ openingOwner (asRead s) c
+  pub owner-opens : {counts : List ℕ} {owner : ℕ} → agentsOf s ≤ maxAgents → Table maxAgents (bundleSize c (openingOwner (asRead s))) counts → OpensWith n easy counts owner → owner ≡ openingOwner (asRead s) c
   unfolding opensWith fewest asRead
   owner-opens {counts} {owner} few t o =
       let is : OpensWith (agentsOf s) easy counts owner = rw e at o in
-      let count : (i : ℕ) → i < agentsOf s → getD counts i 0 ≡ held c (openingOwner (asRead s)) i = λ i l. t .entry i (omega arith) in
+      let count : (i : ℕ) → i < agentsOf s → getD counts i 0 ≡ bundleSize c (openingOwner (asRead s)) i = λ i l. t .entry i (omega arith) in
       by-same easy 0
       (λ z. is .dear z ∙ chosen-cong (agentsOf s) (λ i l. refl) (λ j i k l. ap₂ ltb (count j k) (count i l)) ∙ sym (cond-false _ _ (none z)))
       (λ z. is .easyFor z ∙ first-cong (agentsOf s) (found-easy .member) ∙ sym (cond-true _ _ (some z)))
@@ -78,7 +78,7 @@ module _ (s : List ℕ) (c : ℕ) {n easy : ℕ} (e : n ≡ agentsOf s) (found :
 -- the first k chores are opened
 pub record Opens (s : List ℕ) (k : ℕ) (counts owners prices likes : List ℕ) : Type 0 where
   -- how many of them each agent holds
-  pub counted : Table maxAgents (held k (openingOwner (asRead s))) counts
+  pub counted : Table maxAgents (bundleSize k (openingOwner (asRead s))) counts
   pub ownersSized : length owners ≡ choresOf s
   pub pricesSized : length prices ≡ choresOf s
   pub likesSized : length likes ≡ choresOf s
@@ -88,7 +88,7 @@ pub record Opens (s : List ℕ) (k : ℕ) (counts owners prices likes : List ℕ
 
 module _ {s counts owners prices likes : List ℕ} where
   pub opens-none : counts ≡ replicate maxAgents 0 → length owners ≡ choresOf s → length prices ≡ choresOf s → length likes ≡ choresOf s → Opens s 0 counts owners prices likes
-  unfolding held owns countTo sumWhere
+  unfolding bundleSize owns countTo sumWhere
   opens-none z o p l =
       record {
         counted = sums-none (openingOwner (asRead s)) (λ d. 1) z;
@@ -102,11 +102,11 @@ module _ {s counts owners prices likes : List ℕ} where
 
   -- nobody holds more than the chores opened
   pub count-room : {k i : ℕ} → Opens s k counts owners prices likes → i < maxAgents → getD counts i 0 ≤ k
-  unfolding held
+  unfolding bundleSize
   count-room {k} {i} d l = rw (d .counted .entry i l) (count-le k (owns (openingOwner (asRead s)) i))
 
   pub opens-next : {k owner price word : ℕ} → Opens s k counts owners prices likes → k < choresOf s → owner ≡ openingOwner (asRead s) k → owner < maxAgents → OpensAt s k price word → Opens s (k + 1) (set counts owner (getD counts owner 0 + 1)) (set owners k (owner + 1)) (set prices k price) (set likes k word)
-  unfolding held owns countTo sumWhere
+  unfolding bundleSize owns countTo sumWhere
   opens-next {k} {owner} {price} {word} d h is few w =
       record {
         counted = sums-next (openingOwner (asRead s)) (λ d. 1) (sym is) (d .counted) few refl;

@@ -9,7 +9,7 @@ use lib.ListN.{getD, set, replicate}
 use Rattle.finite.specs.Search.{anyBelow, firstBelow, chosen}
 use Rattle.finite.specs.Lists.{tabulate}
 use Rattle.model.specs.Instance.{Instance, ownerOf, priceOf}
-use Rattle.model.specs.Fairness.{held}
+use Rattle.model.specs.Fairness.{bundleSize}
 use Rattle.model.specs.Step2a.{giver2a, receiver2a, due2a, chore2a}
 use Rattle.model.specs.Step2b.{above, reachable, due2b, giver2b, receiver2b, chore2b}
 
@@ -50,7 +50,7 @@ module _ (I : Instance) where
   module _ (x : ℕ → ℕ) (c : ℕ) where
     -- document 02, request 2: "whoever holds the fewest reels at that point [...]; a tie goes to the lowest number."
     unfoldable pub fewest : ℕ
-    fewest = chosen (I .n) (λ i. true) (λ j i. ltb (held c x j) (held c x i))
+    fewest = chosen (I .n) (λ i. true) (λ j i. ltb (bundleSize c x j) (bundleSize c x i))
 
     -- "reels that somebody finds easy in that reading open as before": "Each reel goes to the lowest-numbered person who finds it easy"
     unfoldable pub opensWith : ℕ

@@ -18,8 +18,8 @@ unfoldable pub holdsAny : ℕ → (ℕ → ℕ) → ℕ → Bool
 holdsAny m x i = anyBelow m (owns x i)
 
 -- how many of the first m chores agent i holds
-unfoldable pub held : ℕ → (ℕ → ℕ) → ℕ → ℕ
-held m x i = countTo m (owns x i)
+unfoldable pub bundleSize : ℕ → (ℕ → ℕ) → ℕ → ℕ
+bundleSize m x i = countTo m (owns x i)
 
 -- what agent i's chores come to, each counted as f says
 unfoldable pub total : ℕ → (ℕ → ℕ) → (ℕ → ℕ) → ℕ → ℕ

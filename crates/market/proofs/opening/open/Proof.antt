@@ -8,7 +8,7 @@ use native.Mathlib.Omega.{arith}
 use Rattle.model.specs.Limits.{maxAgents}
 use Rattle.model.specs.Sheet.{choresOf, asRead}
 use Rattle.model.specs.Algorithm.{openingOwner}
-use Rattle.algorithm.proofs.Opening.{owner-some}
+use Rattle.algorithm.proofs.Opening.{opening-below}
 use borrow.Author.Needs.{needs}
 use Rattle.market.proofs.Opens.{Opens, owner-opens, opens-dear, opens-easy, opens-none, count-room, opens-next, opens-all}
 use Rattle.market.proofs.opening.open.Statement.{statement}
@@ -69,7 +69,7 @@ owner-fits : (c : tie.After-opens-with Inv-loop μ-loop) → c .opens-with .resu
 unfolding asRead
 owner-fits c =
     let valid = start (begun c) .pre .on .valid in
-    omega (arith, owner-is c, owner-some (asRead (start (begun c) .args .sheet .now)) (turn c .before .loop .c) (valid .someAgent), valid .agentsFit)
+    omega (arith, owner-is c, opening-below (asRead (start (begun c) .args .sheet .now)) (turn c .before .loop .c) (valid .someAgent), valid .agentsFit)
 
 mul-held : tie.Need-mul-held Inv-loop μ-loop
 mul-held c = omega (arith, owner-fits c)
