@@ -2,48 +2,43 @@
 
 ghost use mathlib.Core.Path.{_≡_};
 ghost use Prim.Native.Nat.{_<_};
-ghost use mathlib.Core.Bool.{cond};
 ghost use lib.ListN.{replicate};
 ghost use Rattle.finite.specs.Search.{firstBelow};
-ghost use Rattle.finite.specs.Lists.{Table};
 ghost use Rattle.model.specs.Limits.{maxAgents};
 ghost use Rattle.model.specs.Instance.{ownerOf};
-ghost use Rattle.model.specs.Sheet.{agentsOf, easyWeight, difficultWeight, asMarked};
-ghost use Rattle.model.specs.Fairness.{costTo};
+ghost use Rattle.model.specs.Sheet.{agentsOf, asMarked};
 ghost use Rattle.model.specs.Verdicts.{envies, firstOfPair};
-ghost use Rattle.welfare.specs.Waste.{burdened};
 ghost use Rattle.given.specs.Given.{Given};
+ghost use Rattle.evenness.specs.Costs.{Added};
 
-// For each agent what its chores cost, or would cost, agent i: each chore's cost is added to the sum of its owner.
-fn add_costs(sheet: &[u8], owners: &[u8], m: usize, i: usize, sums: &mut [u32; model::MAX_AGENTS])
+// For each agent what its chores cost, or would cost, agent i: each chore's cost is added to the sum of its owner. The answer is the
+// greatest cost of a chore that i holds, 0 where it holds none.
+fn add_costs(
+    sheet: &[u8],
+    owners: &[u8],
+    m: usize,
+    i: usize,
+    sums: &mut [u32; model::MAX_AGENTS],
+) -> u32
     requires { ⌜ Given (now sheet) (now owners) (agentsOf (now sheet)) m ⌝ }
     requires { ⌜ i < agentsOf (now sheet) ⌝ }
     requires { ⌜ now sums ≡ replicate maxAgents 0 ⌝ }
-    ensures { λ _. ⌜ Table maxAgents (costTo (asMarked (now (sheet .entry))) (ownerOf (now (owners .entry))) i) (now (sums .exit)) ⌝ }
+    ensures { λ r. ⌜ Added m (now (sheet .entry)) (now (owners .entry)) i (now (sums .exit)) r ⌝ }
 {
     let a = sheet::easy_weight(sheet);
     let b = sheet::difficult_weight(sheet);
+    let mut costliest = 0;
     let mut c = 0;
     while c < m {
         let j = given::owner(owners, c);
-        sums[j] += given::cost(sheet, m, a, b, i, c);
+        let cost = given::cost(sheet, m, a, b, i, c);
+        sums[j] += cost;
+        if j == i && costliest < cost {
+            costliest = cost;
+        }
         c += 1;
     }
-}
-
-// What is taken off for agent i: the weight of its costliest chore. Without chores i envies nobody, and either weight will do.
-fn costliest(sheet: &[u8], owners: &[u8], m: usize, i: usize) -> u32
-    requires { ⌜ Given (now sheet) (now owners) (agentsOf (now sheet)) m ⌝ }
-    requires { ⌜ i < agentsOf (now sheet) ⌝ }
-    ensures { λ r. ⌜ r ≡ cond (burdened (asMarked (now (sheet .entry))) (ownerOf (now (owners .entry))) i) (difficultWeight (now (sheet .entry))) (easyWeight (now (sheet .entry))) ⌝ }
-{
-    let easy = sheet::easy_weight(sheet);
-    let difficult = sheet::difficult_weight(sheet);
-    if given::first_burden(sheet, owners, m, i) < m {
-        difficult
-    } else {
-        easy
-    }
+    costliest
 }
 
 // The first agent that agent i envies, n where there is none.
@@ -53,14 +48,9 @@ pub fn first_envied(sheet: &[u8], owners: &[u8], n: usize, m: usize, i: usize) -
     ensures { λ r. ⌜ r ≡ firstBelow n (envies (asMarked (now (sheet .entry))) (ownerOf (now (owners .entry))) i) ⌝ }
 {
     let mut sums = totals::zeros();
-    add_costs(sheet, owners, m, i, &mut sums);
-    let own = sums[i];
-    let off = costliest(sheet, owners, m, i);
-    // Nothing is left of what i's chores cost: nobody's cost less.
-    if own <= off {
-        return n;
-    }
-    totals::first_below(n, &sums, own - off)
+    let costliest = add_costs(sheet, owners, m, i, &mut sums);
+    let rest = sums[i] - costliest;
+    totals::first_below(n, &sums, rest)
 }
 
 // The first agent that envies another, n where there is none.

@@ -3,7 +3,7 @@
 use Prim.Native.Nat.{ℕ, _+_, _≤_, _<_}
 use mathlib.Core.Bool.{Bool, true, false, _&&_}
 use mathlib.Core.List.{List}
-use mathlib.Core.Path.{_≡_, sym, _∙_}
+use mathlib.Core.Path.{_≡_, _∙_}
 use native.Mathlib.Omega.{arith}
 use lib.Dec.{leb, ltb}
 use lib.ListN.{length, getD}
@@ -12,16 +12,14 @@ use Rattle.finite.specs.Lists.{Picks}
 use Rattle.finite.proofs.Tests.{and-intro, and-no-left, and-no-right}
 use Rattle.finite.proofs.Search.{all-zero, all-next, all-fails-intro}
 use Rattle.model.specs.Limits.{maxAgents}
-use Rattle.model.specs.Instance.{cost, ownerOf}
-use Rattle.model.specs.Sheet.{agentsOf, choresOf, easyWeight, difficultWeight, marksEasy, asMarked}
+use Rattle.model.specs.Instance.{ownerOf}
+use Rattle.model.specs.Sheet.{agentsOf, choresOf, easyWeight, difficultWeight, asMarked}
 use Rattle.model.specs.Fairness.{ownersInRange}
 use Rattle.model.specs.Refusals.{_orElse_, sheetRefusal, ownersRefusal}
-use Rattle.sheet.specs.Readers.{InSheet}
 use Rattle.sheet.proofs.OrElse.{or-else-zero}
 use Rattle.sheet.proofs.Judged.{owners-picks}
 use Rattle.sheet.proofs.Refusal.{valid}
-use Rattle.welfare.proofs.Costs.{cost-easy, cost-difficult}
-use Rattle.given.specs.Given.{givenRefusal, Given, Weighed, Owned, Costed, Cost}
+use Rattle.given.specs.Given.{givenRefusal, Given, Weighed, Owned}
 
 -- entries from 1 to a limit: what one more entry adds, and what one entry out of range spoils
 
@@ -99,29 +97,3 @@ module _ {s owners : List ℕ} {n m : ℕ} (g : Given s owners n m) where
 
   pub given-weighed : {a b : ℕ} → a ≡ easyWeight s → b ≡ difficultWeight s → Weighed s m a b
   given-weighed e d = record { valid = g .valid; chores = g .chores; easy = e; difficult = d }
-
--- a cost that was read
-module _ {s : List ℕ} {m a b i c : ℕ} (k : Costed s m a b i c) where
-  pub costed-in-sheet : InSheet s m i c
-  costed-in-sheet =
-      record { long = k .weighed .valid .long; chores = k .weighed .chores; agent = k .agent; chore = rw (← k .weighed .chores) (k .chore) }
-
-  pub cost-of-easy : marksEasy s i c ≡ true → Cost (cost (asMarked s) i c) a
-  unfolding asMarked
-  cost-of-easy e =
-      let v = k .weighed .valid in
-      record {
-        is = k .weighed .easy ∙ sym (cost-easy (asMarked s) i c e);
-        positive = omega (arith, k .weighed .easy, v .easyPositive);
-        fits = omega (arith, k .weighed .easy, v .easier, v .weightFits);
-      }
-
-  pub cost-of-difficult : marksEasy s i c ≡ false → Cost (cost (asMarked s) i c) b
-  unfolding asMarked
-  cost-of-difficult e =
-      let v = k .weighed .valid in
-      record {
-        is = k .weighed .difficult ∙ sym (cost-difficult (asMarked s) i c e);
-        positive = omega (arith, k .weighed .difficult, v .easier);
-        fits = omega (arith, k .weighed .difficult, v .weightFits);
-      }

@@ -3,12 +3,14 @@
 
 ghost use mathlib.Core.Path.{_≡_};
 ghost use Prim.Native.Nat.{_<_};
+ghost use mathlib.Core.Bool.{cond};
+ghost use lib.Dec.{eqb};
 ghost use Rattle.finite.specs.Search.{firstBelow};
 ghost use Rattle.model.specs.Instance.{cost, ownerOf};
-ghost use Rattle.model.specs.Sheet.{agentsOf, asMarked};
+ghost use Rattle.model.specs.Sheet.{agentsOf, difficultMark, asMarked};
 ghost use Rattle.model.specs.Refusals.{ownersRefusal};
 ghost use Rattle.sheet.specs.Readers.{Read};
-ghost use Rattle.given.specs.Given.{givenRefusal, Given, Owned, Costed, Cost};
+ghost use Rattle.given.specs.Given.{givenRefusal, Given, Owned, Marked, Costed, Cost};
 ghost use Rattle.given.specs.Burdens.{burdens};
 
 // The number that a list of owners is turned down with, 0 where it is not.
@@ -50,16 +52,21 @@ pub fn owner(owners: &[u8], c: usize) -> usize
     owners[c] as usize - 1
 }
 
+// What a mark costs. Document 02, request 3: "by arithmetic without a branch: a plus the product of (b − a) and (hexadecimal 65 less the
+// mark's byte), which is 0 for `e` and 1 for `d`".
+fn mark_cost(a: u32, b: u32, mark: u8) -> u32
+    requires { ⌜ Marked a b mark ⌝ }
+    ensures { λ r. ⌜ r ≡ cond (eqb mark difficultMark) b a ⌝ }
+{
+    a + (b - a) * (sheet::EASY - mark) as u32
+}
+
 // What a chore costs an agent, as marked: one of the sheet's weights `a` and `b`.
 pub fn cost(sheet: &[u8], m: usize, a: u32, b: u32, i: usize, c: usize) -> u32
     requires { ⌜ Costed (now sheet) m a b i c ⌝ }
     ensures { λ r. ⌜ Cost (cost (asMarked (now (sheet .entry))) i c) r ⌝ }
 {
-    if sheet::marks_easy(sheet, m, i, c) {
-        a
-    } else {
-        b
-    }
+    mark_cost(a, b, sheet::mark_at(sheet, m, i, c))
 }
 
 // The first chore of agent i that is difficult for it, m where there is none.

@@ -6,13 +6,13 @@ ghost use mathlib.Core.Bool.{not};
 ghost use lib.Dec.{eqb};
 ghost use lib.ListN.{length, getD};
 ghost use Rattle.finite.specs.Lists.{wordAt};
-ghost use Rattle.model.specs.Sheet.{headerSize, agentsOf, choresOf, easyWeight, difficultWeight, marksEasy, allDifficult};
+ghost use Rattle.model.specs.Sheet.{headerSize, agentsOf, choresOf, easyWeight, difficultWeight, markAt, marksEasy, allDifficult};
 ghost use Rattle.model.specs.Refusals.{_orElse_, _when_, outOfRange, weightsFault, isMark, marksFault, headerRefusal, sheetRefusal, lentRefusal};
 ghost use Rattle.sheet.specs.Readers.{Read, InSheet, RowInSheet};
 
-const EASY: u8 = b'e';
+pub const EASY: u8 = b'e';
 
-const DIFFICULT: u8 = b'd';
+pub const DIFFICULT: u8 = b'd';
 
 pub fn byte_at(bytes: &[u8], i: usize) -> u32
     requires { ⌜ i < length (now bytes) ⌝ }
@@ -61,11 +61,18 @@ pub fn difficult_weight(sheet: &[u8]) -> u32
 
 // Whoever asks for a mark asks here, so that where it lies is known to nobody else. The caller passes the number of chores, since a
 // search asks for many marks of one sheet.
+pub fn mark_at(sheet: &[u8], m: usize, i: usize, c: usize) -> u8
+    requires { ⌜ InSheet (now sheet) m i c ⌝ }
+    ensures { λ r. ⌜ r ≡ markAt (now (sheet .entry)) i c ⌝ }
+{
+    sheet[model::HEADER_SIZE + i * m + c]
+}
+
 pub fn marks_easy(sheet: &[u8], m: usize, i: usize, c: usize) -> bool
     requires { ⌜ InSheet (now sheet) m i c ⌝ }
     ensures { λ r. ⌜ r ≡ marksEasy (now (sheet .entry)) i c ⌝ }
 {
-    sheet[model::HEADER_SIZE + i * m + c] != DIFFICULT
+    mark_at(sheet, m, i, c) != DIFFICULT
 }
 
 // Whether agent i marked every chore difficult.

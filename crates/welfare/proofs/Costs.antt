@@ -5,9 +5,9 @@ use mathlib.Core.Bool.{true, false, not, _&&_}
 use mathlib.Core.Path.{_≡_}
 use native.Mathlib.Nat.{le-refl}
 use native.Mathlib.Omega.{arith}
-use borrow.Author.Tests.{not-true, not-false, eqb-true, eq-eqb, ne-eqb}
-use Rattle.finite.proofs.Tests.{cond-le, le-cond, and-elim, and-intro, and-rest, not-on}
-use Rattle.finite.proofs.Search.{any-elim, any-intro, any-none}
+use borrow.Author.Tests.{not-true, eqb-true, eq-eqb, ne-eqb}
+use Rattle.finite.proofs.Tests.{cond-le, le-cond, and-elim, and-intro, not-on}
+use Rattle.finite.proofs.Search.{any-elim, any-intro}
 use Rattle.model.specs.Instance.{Instance, cost}
 use Rattle.model.specs.Fairness.{owns}
 use Rattle.welfare.specs.Waste.{burdened, passesOn}
@@ -81,12 +81,6 @@ module _ (I : Instance) (x : ℕ → ℕ) where
   unfolding burdened
   burden-intro i c l e d =
       any-intro (λ c. owns x i c && not (I .easy i c)) c l (and-intro (owned-by x i c e) (not-on d))
-
-  -- what an agent without burden owns is easy for it
-  pub burden-none : (i : ℕ) → burdened I x i ≡ false → (c : ℕ) → c < I .m → x c ≡ i → I .easy i c ≡ true
-  unfolding burdened
-  burden-none i h c l e =
-      not-false (I .easy i c) (and-rest (not (I .easy i c)) (any-none (I .m) (λ c. owns x i c && not (I .easy i c)) h c l) (owned-by x i c e))
 
   pub passes-elim : (i j : ℕ) → passesOn I x i j ≡ true → Passable I x i j
   unfolding passesOn

@@ -1,23 +1,20 @@
 -- Evenness is decided by the costliest chore: if any chore taken off makes the rest cost no more, one of the costliest does.
 -- Assumes nothing.
 use Prim.Native.Nat.{ℕ, _+_, _≤_, _<_}
-use mathlib.Core.Bool.{Bool, true, false, cond, not, _&&_}
-use mathlib.Core.Path.{_≡_, sym, ap, _∙_}
-use native.Mathlib.Nat.{le-of-eq}
+use mathlib.Core.Bool.{Bool, true, false, not, _&&_}
+use mathlib.Core.Path.{_≡_}
 use native.Mathlib.Omega.{arith}
 use lib.Dec.{leb}
 use borrow.Author.Tests.{leb-true, le-leb, not-true}
 use Rattle.finite.specs.Sums.{maxWhere}
 use Rattle.finite.specs.Search.{anyBelow, allBelow}
-use Rattle.finite.proofs.Tests.{by-test, by-cond, clash, bool-eq, not-on, not-yes, and-elim, and-intro, or-cases, or-left, or-right}
+use Rattle.finite.proofs.Tests.{by-test, clash, bool-eq, not-on, not-yes, and-elim, and-intro, or-cases, or-left, or-right}
 use Rattle.finite.proofs.Search.{any-elim, any-intro, any-none, all-elim, all-intro}
 use Rattle.finite.proofs.Where.{where-none, where-off}
-use Rattle.finite.proofs.Extremes.{peak-attained, peak-above, peak-unique}
+use Rattle.finite.proofs.Extremes.{peak-attained, peak-above}
 use Rattle.model.specs.Instance.{Instance, cost}
 use Rattle.model.specs.Fairness.{owns, holdsAny, total, costTo, costWithout, fair, ef1}
 use Rattle.model.specs.Verdicts.{envies}
-use Rattle.welfare.specs.Waste.{burdened}
-use Rattle.welfare.proofs.Costs.{owned, owned-by, cost-easy, cost-difficult, cost-at-most, burden-elim, burden-none}
 
 module _ (I : Instance) (x : ℕ → ℕ) where
   -- what an agent without chores has costs nothing
@@ -69,45 +66,6 @@ module _ (I : Instance) (x : ℕ → ℕ) where
 
   pub fair-self : (i : ℕ) → fair I x i i ≡ true
   fair-self i = fair-intro i i (λ _. omega arith)
-
-  -- the costliest chore of an agent that owns a difficult one costs b
-  costliest-difficult : I .a ≤ I .b → (i : ℕ) → burdened I x i ≡ true → maxWhere (I .m) (owns x i) (cost I i) ≡ I .b
-  costliest-difficult le i e =
-      let r = burden-elim I x i e in
-      sym (peak-unique (record {
-        index = r .chore;
-        below = r .below;
-        passes = owned-by x i (r .chore) (r .owner);
-        value = cost-difficult I i (r .chore) (r .difficult);
-        above = λ c l q. cost-at-most I i c le;
-      }))
-
-  -- and that of an agent that owns easy ones only costs a
-  costliest-easy : (i : ℕ) → burdened I x i ≡ false → holdsAny (I .m) x i ≡ true → maxWhere (I .m) (owns x i) (cost I i) ≡ I .a
-  unfolding holdsAny
-  costliest-easy i e h =
-      let r = any-elim (I .m) (owns x i) h in
-      sym (peak-unique (record {
-        index = r .index;
-        below = r .below;
-        passes = r .passes;
-        value = light (r .index) (r .below) (r .passes);
-        above = λ c l q. le-of-eq (light c l q);
-      }))
-    where
-      light : (c : ℕ) → c < I .m → owns x i c ≡ true → cost I i c ≡ I .a
-      light c l q = cost-easy I i c (burden-none I x i e c l (owned x i c q))
-
-  pub costliest : I .a ≤ I .b → (i : ℕ) → holdsAny (I .m) x i ≡ true → maxWhere (I .m) (owns x i) (cost I i) ≡ cond (burdened I x i) (I .b) (I .a)
-  costliest le i h =
-      by-cond (λ v. maxWhere (I .m) (owns x i) (cost I i) ≡ v) (burdened I x i) (I .b) (I .a) (costliest-difficult le i) (λ e. costliest-easy i e h)
-
-  -- what there is to compute
-  pub fair-weights : I .a ≤ I .b → (i j : ℕ) → fair I x i j ≡ leb (costTo I x i i) (costTo I x i j + cond (burdened I x i) (I .b) (I .a))
-  fair-weights le i j =
-      by-test (holdsAny (I .m) x i)
-      (λ e. fair-test i j ∙ ap (λ v. leb (costTo I x i i) (costTo I x i j + v)) (costliest le i e))
-      (λ e. fair-idle i j e ∙ sym (le-leb (costTo I x i i) (costTo I x i j + cond (burdened I x i) (I .b) (I .a)) (omega (arith, idle-cost i i e))))
 
   pub ef1-elim : ef1 I x ≡ true → (i j : ℕ) → i < I .n → j < I .n → fair I x i j ≡ true
   unfolding ef1

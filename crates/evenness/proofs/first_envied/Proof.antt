@@ -3,7 +3,7 @@ use mathlib.Core.Path.{_∙_}
 use native.Mathlib.Omega.{arith}
 use borrow.Author.Needs.{needs}
 use Rattle.given.proofs.Given.{given-agents}
-use Rattle.evenness.proofs.Sums.{envied-first, envied-none}
+use Rattle.evenness.proofs.Costs.{costliest-part, envied-first}
 use Rattle.evenness.proofs.first_envied.Statement.{statement}
 use Rattle.evenness.proofs.first_envied.Tie as tie
 
@@ -19,35 +19,23 @@ add-costs-requires c κs =
     let p = c .before .before .before .before .pre in
     (given-agents (p .0), (omega (arith, p .0 .agents), c .before .zeros .ensures))
 
-mul-own : tie.Need-mul-own
-mul-own c = search needs
+mul-rest : tie.Need-mul-rest
+mul-rest c = search needs
 
-array-read-own : tie.Need-array-read-own
-array-read-own c = search needs
+array-read-rest : tie.Need-array-read-rest
+array-read-rest c = search needs
 
-costliest-requires : tie.Need-costliest-requires
-costliest-requires c κs =
-    let p = start c .pre in
-    (given-agents (p .0), omega (arith, p .0 .agents))
+sub-rest : tie.Need-sub-rest
+sub-rest c = let p = start c .pre in costliest-part (p .0) (c .add-costs .ensures) (p .1)
+
+first-below-requires : tie.Need-first-below-requires
+first-below-requires c κs = search needs
 
 returns : tie.Need-returns
 returns c =
     let costs = c .before .before in
     let p = start costs .pre in
-    envied-none (p .0) _ (p .1) (costs .add-costs .ensures) (c .before .costliest .ensures) (c .if1 .taken)
-
-sub-first-below : tie.Need-sub-first-below
-sub-first-below c = search needs
-
-first-below-requires : tie.Need-first-below-requires
-first-below-requires c κs = search needs
-
-returns-2 : tie.Need-returns-2
-returns-2 c =
-    let off = c .before .before .before in
-    let costs = off .before in
-    let p = start costs .pre in
-    c .first-below .ensures ∙ envied-first (p .0) _ (p .1) (costs .add-costs .ensures) (off .costliest .ensures)
+    c .first-below .ensures ∙ envied-first (p .0) (costs .add-costs .ensures) (p .1)
 
 pub first-envied-spec : {M : Type 1} → statement M
 first-envied-spec =
@@ -55,10 +43,8 @@ first-envied-spec =
     (tie.spec
     zeros-requires
     add-costs-requires
-    mul-own
-    array-read-own
-    costliest-requires
-    returns
-    sub-first-below
+    mul-rest
+    array-read-rest
+    sub-rest
     first-below-requires
-    returns-2)
+    returns)

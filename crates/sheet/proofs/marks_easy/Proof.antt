@@ -1,26 +1,15 @@
--- `sheet::marks_easy` meets its contract: the mark lies inside the sheet, so that no sum on the way to it wraps.
-use native.Mathlib.Omega.{arith}
-use Rattle.model.specs.Sheet.{markAt, isDifficult, marksEasy}
-use Rattle.sheet.proofs.Marks.{inside}
+-- `sheet::marks_easy` meets its contract.
+use borrow.Author.Needs.{needs}
+use Rattle.model.specs.Sheet.{isDifficult, marksEasy}
 use Rattle.sheet.proofs.marks_easy.Statement.{statement}
 use Rattle.sheet.proofs.marks_easy.Tie as tie
 
-mul-result : tie.Need-mul-result
-mul-result c = let l = inside (c .pre) in omega arith
-
-add-result : tie.Need-add-result
-add-result c = let l = inside (c .pre) in omega arith
-
-add-result-2 : tie.Need-add-result-2
-add-result-2 c = let l = inside (c .pre) in omega arith
-
-shared-slice-read-result : tie.Need-shared-slice-read-result
-shared-slice-read-result c = inside (c .before .pre)
+mark-at-requires : tie.Need-mark-at-requires
+mark-at-requires c κs = search needs
 
 returns : tie.Need-returns
-unfolding markAt isDifficult marksEasy
-returns c = rw (c .before .pre .chores)
+unfolding isDifficult marksEasy
+returns c = rw (c .mark-at .ensures)
 
 pub marks-easy-spec : {M : Type 1} → statement M
-marks-easy-spec =
-    tie.close (tie.spec mul-result add-result add-result-2 shared-slice-read-result returns)
+marks-easy-spec = tie.close (tie.spec mark-at-requires returns)
