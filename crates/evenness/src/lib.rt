@@ -3,42 +3,53 @@
 ghost use mathlib.Core.Path.{_≡_};
 ghost use Prim.Native.Nat.{_<_};
 ghost use lib.ListN.{replicate};
+ghost use Rattle.finite.specs.Sums.{maxWhere};
 ghost use Rattle.finite.specs.Search.{firstBelow};
+ghost use Rattle.finite.specs.Lists.{Table};
 ghost use Rattle.model.specs.Limits.{maxAgents};
-ghost use Rattle.model.specs.Instance.{ownerOf};
+ghost use Rattle.model.specs.Instance.{cost, ownerOf};
 ghost use Rattle.model.specs.Sheet.{agentsOf, asMarked};
+ghost use Rattle.model.specs.Fairness.{owns, costTo};
 ghost use Rattle.model.specs.Verdicts.{envies, firstOfPair};
 ghost use Rattle.given.specs.Given.{Given};
-ghost use Rattle.evenness.specs.Costs.{Added};
 
-// For each agent what its chores cost, or would cost, agent i: each chore's cost is added to the sum of its owner. The answer is the
-// greatest cost of a chore that i holds, 0 where it holds none.
-fn add_costs(
-    sheet: &[u8],
-    owners: &[u8],
-    m: usize,
-    i: usize,
-    sums: &mut [u32; model::MAX_AGENTS],
-) -> u32
+// For each agent what its chores cost, or would cost, agent i: each chore's cost is added to the sum of its owner.
+fn add_costs(sheet: &[u8], owners: &[u8], m: usize, i: usize, sums: &mut [u32; model::MAX_AGENTS])
     requires { ⌜ Given (now sheet) (now owners) (agentsOf (now sheet)) m ⌝ }
     requires { ⌜ i < agentsOf (now sheet) ⌝ }
     requires { ⌜ now sums ≡ replicate maxAgents 0 ⌝ }
-    ensures { λ r. ⌜ Added m (now (sheet .entry)) (now (owners .entry)) i (now (sums .exit)) r ⌝ }
+    ensures { λ _. ⌜ Table maxAgents (costTo (asMarked (now (sheet .entry))) (ownerOf (now (owners .entry))) i) (now (sums .exit)) ⌝ }
 {
     let a = sheet::easy_weight(sheet);
     let b = sheet::difficult_weight(sheet);
-    let mut costliest = 0;
     let mut c = 0;
     while c < m {
         let j = given::owner(owners, c);
-        let cost = given::cost(sheet, m, a, b, i, c);
-        sums[j] += cost;
-        if j == i && costliest < cost {
-            costliest = cost;
+        sums[j] += given::cost(sheet, m, a, b, i, c);
+        c += 1;
+    }
+}
+
+// What is taken off for agent i: the greatest cost of a chore that it holds, 0 where it holds none.
+fn costliest(sheet: &[u8], owners: &[u8], m: usize, i: usize) -> u32
+    requires { ⌜ Given (now sheet) (now owners) (agentsOf (now sheet)) m ⌝ }
+    requires { ⌜ i < agentsOf (now sheet) ⌝ }
+    ensures { λ r. ⌜ r ≡ maxWhere m (owns (ownerOf (now (owners .entry))) i) (cost (asMarked (now (sheet .entry))) i) ⌝ }
+{
+    let a = sheet::easy_weight(sheet);
+    let b = sheet::difficult_weight(sheet);
+    let mut most = 0;
+    let mut c = 0;
+    while c < m {
+        if given::owner(owners, c) == i {
+            let cost = given::cost(sheet, m, a, b, i, c);
+            if most < cost {
+                most = cost;
+            }
         }
         c += 1;
     }
-    costliest
+    most
 }
 
 // The first agent that agent i envies, n where there is none.
@@ -48,8 +59,13 @@ pub fn first_envied(sheet: &[u8], owners: &[u8], n: usize, m: usize, i: usize) -
     ensures { λ r. ⌜ r ≡ firstBelow n (envies (asMarked (now (sheet .entry))) (ownerOf (now (owners .entry))) i) ⌝ }
 {
     let mut sums = totals::zeros();
-    let costliest = add_costs(sheet, owners, m, i, &mut sums);
-    let rest = sums[i] - costliest;
+    add_costs(sheet, owners, m, i, &mut sums);
+    let own = sums[i];
+    // Nobody's chores would cost i less: nothing need be taken off.
+    if totals::first_below(n, &sums, own) == n {
+        return n;
+    }
+    let rest = own - costliest(sheet, owners, m, i);
     totals::first_below(n, &sums, rest)
 }
 

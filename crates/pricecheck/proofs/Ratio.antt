@@ -10,7 +10,6 @@ use native.Mathlib.Omega.{arith}
 use lib.ListN.{length, set, length-set}
 use lib.Seq.{getD-set-same, getD-set-other}
 use borrow.Author.Tests.{leb-true, leb-false, le-leb, not-true, not-false}
-use Rattle.finite.specs.Search.{allBelow}
 use Rattle.finite.proofs.Tests.{bool-eq, and-intro}
 use Rattle.finite.proofs.Below.{none-below, by-same}
 use Rattle.finite.proofs.Search.{all-zero, all-next, all-elim, all-intro}
@@ -18,7 +17,7 @@ use Rattle.model.specs.Limits.{maxAgents}
 use Rattle.model.specs.Instance.{Instance, cost, priceOf}
 use Rattle.model.specs.Sheet.{asMarked}
 use Rattle.model.specs.Prices.{ratioAtMost, best}
-use Rattle.pricecheck.specs.Parts.{Rated, LeastRatio, LeastRatios}
+use Rattle.pricecheck.specs.Parts.{leastOf, Rated, LeastSoFar, FirstLower, LeastRatio, LeastRatios}
 
 module _ (I : Instance) (p : ℕ → ℕ) (i : ℕ) where
   ratio-elim : (c d : ℕ) → ratioAtMost I p i c d ≡ true → cost I i c * p d ≤ cost I i d * p c
@@ -38,21 +37,28 @@ module _ (I : Instance) (p : ℕ → ℕ) (i : ℕ) where
       ratio-intro c e
       (le-of-mul-le-mul-left {k = p d} (omega (arith, mul-le-mul-left (p e) (ratio-elim c d h), mul-le-mul-left (p c) (ratio-elim d e k))) some)
 
-  -- l has the least ratio among the first k chores
-  unfoldable pub leastOf : ℕ → ℕ → Bool
-  leastOf k l = allBelow k (λ d. ratioAtMost I p i l d)
+  -- with every chore passed, the chore of least ratio is a best one
+  pub least-done : {k : ℕ} (l : ℕ) → k ≡ I .m → leastOf I p i k l ≡ true → best I p i l ≡ true
+  unfolding leastOf best
+  least-done l e h = rw e at h
 
-  pub least-zero : (l : ℕ) → leastOf 0 l ≡ true
+  -- no chore has been passed yet
+  pub least-zero : (l : ℕ) → leastOf I p i 0 l ≡ true
   unfolding leastOf
   least-zero l = all-zero _
 
+  -- the first chore is compared with itself only
+  pub least-first : leastOf I p i (0 + 1) 0 ≡ true
+  unfolding leastOf
+  least-first = all-next 0 _ ∙ and-intro (all-zero _) (ratio-intro 0 0 (le-refl _))
+
   -- chore k is compared with l, and r is what that says
-  module _ (k l : ℕ) {r : Bool} (all : leastOf k l ≡ true) (told : r ≡ ratioAtMost I p i l k) where
-    pub least-keep : not r ≡ false → leastOf (k + 1) l ≡ true
+  module _ (k l : ℕ) {r : Bool} (all : leastOf I p i k l ≡ true) (told : r ≡ ratioAtMost I p i l k) where
+    least-keep : not r ≡ false → leastOf I p i (k + 1) l ≡ true
     unfolding leastOf
     least-keep e = all-next k _ ∙ and-intro all (sym told ∙ not-false r e)
 
-    pub least-take : 0 < p l → not r ≡ true → leastOf (k + 1) k ≡ true
+    least-take : 0 < p l → not r ≡ true → leastOf I p i (k + 1) k ≡ true
     unfolding leastOf
     least-take some e =
         let less = ratio-total l k (sym told ∙ not-true r e) in
@@ -70,10 +76,29 @@ pub rated-positive : {s prices : List ℕ} {m a b : ℕ} → Rated s prices m a 
 unfolding priceOf
 rated-positive r = r .priced .positive
 
--- the search for a least ratio comes to an end
-pub least-done : {s prices : List ℕ} {m a b k : ℕ} (i l : ℕ) → Rated s prices m a b → k ≡ m → leastOf (asMarked s) (priceOf prices) i k l ≡ true → best (asMarked s) (priceOf prices) i l ≡ true
-unfolding leastOf best asMarked
-least-done i l r e h = rw (e, r .weighed .chores) at h
+-- the search for a lower ratio
+module _ {s prices : List ℕ} {m i l : ℕ} where
+  pub so-far-next : {k : ℕ} {r : Bool} → LeastSoFar s prices m i l k → k < m → r ≡ ratioAtMost (asMarked s) (priceOf prices) i l k → not r ≡ false → LeastSoFar s prices m i l (k + 1)
+  so-far-next {k} h below told e =
+      record { chore = h .chore; passed = omega arith; least = least-keep (asMarked s) (priceOf prices) i k l (h .least) told e }
+
+  -- chore k has a lower ratio
+  pub lower-found : {a b n k : ℕ} {r : Bool} → Rated s prices m a b → n ≤ k → LeastSoFar s prices m i l k → k < m → r ≡ ratioAtMost (asMarked s) (priceOf prices) i l k → not r ≡ true → FirstLower s prices m i l n k
+  lower-found {k = k} rated on h below told e =
+      record {
+        on = on;
+        before = h;
+        found = λ _.
+            record {
+              chore = λ _. below;
+              passed = omega arith;
+              least = least-take (asMarked s) (priceOf prices) i k l (h .least) told (rated-positive rated l (h .chore (omega arith))) e;
+            };
+      }
+
+  -- none has
+  pub lower-none : {n k : ℕ} → n ≤ k → k ≡ m → LeastSoFar s prices m i l k → FirstLower s prices m i l n m
+  lower-none on e h = record { on = omega arith; before = rw e at h; found = λ f. absurd (omega arith) }
 
 -- best chores for the agents one by one
 module _ {s prices : List ℕ} {m : ℕ} {least : List ℕ} where

@@ -13,7 +13,7 @@ ghost use Rattle.model.specs.Verdicts.{firstOfPair, firstOffPrice};
 ghost use Rattle.model.specs.Replies.{priceReply};
 ghost use Rattle.model.specs.Promises.{PricesChecked};
 ghost use Rattle.totals.specs.Totals.{Held};
-ghost use Rattle.pricecheck.specs.Parts.{Rated, Compared, PricesGiven, LeastRatio, LeastRatios, above, outpays, envyVerdict};
+ghost use Rattle.pricecheck.specs.Parts.{Rated, Compared, PricesGiven, LeastSoFar, FirstLower, LeastRatio, LeastRatios, above, outpays, envyVerdict};
 
 // The number that a list of prices is turned down with, 0 where it is not.
 fn prices_refusal(prices: &[u32], m: usize) -> u8
@@ -71,6 +71,33 @@ fn ratio_at_most(
     left <= right
 }
 
+// The first chore from k on for which agent i's ratio is below that for chore d, m where there is none. In this search the ratio for d stays
+// the same, so that it is worked out once.
+fn first_lower(
+    sheet: &[u8],
+    prices: &[u32],
+    m: usize,
+    a: u32,
+    b: u32,
+    i: usize,
+    d: usize,
+    k: usize,
+) -> usize
+    requires { ⌜ Rated (now sheet) (now prices) m a b ⌝ }
+    requires { ⌜ i < agentsOf (now sheet) ⌝ }
+    requires { ⌜ LeastSoFar (now sheet) (now prices) m i d k ⌝ }
+    ensures { λ r. ⌜ FirstLower (now (sheet .entry)) (now (prices .entry)) m i d k r ⌝ }
+{
+    let mut c = k;
+    while c < m {
+        if !ratio_at_most(sheet, prices, m, a, b, i, d, c) {
+            return c;
+        }
+        c += 1;
+    }
+    m
+}
+
 // A chore of agent i's least ratio over all chores; 0 where there is no chore.
 fn least_ratio(sheet: &[u8], prices: &[u32], m: usize, a: u32, b: u32, i: usize) -> usize
     requires { ⌜ Rated (now sheet) (now prices) m a b ⌝ }
@@ -80,10 +107,8 @@ fn least_ratio(sheet: &[u8], prices: &[u32], m: usize, a: u32, b: u32, i: usize)
     let mut least = 0;
     let mut c = 0;
     while c < m {
-        if !ratio_at_most(sheet, prices, m, a, b, i, least, c) {
-            least = c;
-        }
-        c += 1;
+        least = c;
+        c = first_lower(sheet, prices, m, a, b, i, least, c + 1);
     }
     least
 }

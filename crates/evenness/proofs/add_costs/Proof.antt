@@ -1,23 +1,25 @@
 -- `evenness::add_costs` meets its contract. The loop's invariant: the chores passed are added up.
 use Prim.Native.Nat.{_-_, _≤_, _<_}
-use mathlib.Core.Logic.{⊎-elim}
-use mathlib.Core.Path.{_≡_}
-use native.Mathlib.Nat.{le-of-lt}
+use mathlib.Core.Path.{_≡_, sym}
 use native.Mathlib.Omega.{arith}
 use borrow.Author.Needs.{needs}
-use borrow.Author.Tests.{ltb-true, ltb-false}
+use Rattle.finite.specs.Lists.{Table}
+use Rattle.finite.proofs.Sweeps.{sums-none, sums-next}
 use Rattle.model.specs.Limits.{maxAgents}
+use Rattle.model.specs.Instance.{cost, ownerOf}
+use Rattle.model.specs.Sheet.{choresOf, asMarked}
+use Rattle.model.specs.Fairness.{owns, total, costTo}
 use Rattle.given.proofs.Given.{given-few, owner-below, given-owned}
-use Rattle.evenness.specs.Costs.{Added}
-use Rattle.evenness.proofs.Costs.{added-none, added-raised, added-kept, sum-fits}
+use Rattle.evenness.proofs.Sums.{sums-fit}
 use Rattle.evenness.proofs.add_costs.Statement.{statement}
 use Rattle.evenness.proofs.add_costs.Tie as tie
 
 abbrev Inv-loop : tie.InvT-loop
-Inv-loop sheet owners m i sums₀ a b costliest₀ c₀ sums costliest c = (c ≤ m) × Added c sheet owners i sums costliest
+Inv-loop sheet owners m i sums₀ a b c₀ sums c =
+    (c ≤ m) × Table maxAgents (total c (ownerOf owners) (cost (asMarked sheet) i)) sums
 
 abbrev μ-loop : tie.MeasureT-loop
-μ-loop sheet owners m i sums₀ a b costliest₀ c₀ sums costliest c = m - c
+μ-loop sheet owners m i sums₀ a b c₀ sums c = m - c
 
 -- back from where the loop begins to the start
 abbrev start : tie.After-difficult-weight Inv-loop μ-loop → tie.Start Inv-loop μ-loop
@@ -30,7 +32,8 @@ difficult-weight-requires : tie.Need-difficult-weight-requires Inv-loop μ-loop
 difficult-weight-requires c κs = search needs
 
 loop-holds : tie.Need-loop-holds Inv-loop μ-loop
-loop-holds c = (omega arith, added-none _ (start c .pre .1 .1))
+unfolding total owns
+loop-holds c = (omega arith, sums-none _ _ (start c .pre .1 .1))
 
 owner-requires : tie.Need-owner-requires Inv-loop μ-loop
 owner-requires c κs = given-owned (start (c .before .before) .pre .0) _ (c .loop-test .taken)
@@ -55,7 +58,7 @@ add-sums : tie.Need-add-sums Inv-loop μ-loop
 add-sums c =
     let costed = c .before in
     let turn = costed .before .before in
-    omega (arith, sum-fits (start (turn .before .before) .pre .0) (turn .loop-test .taken) (turn .before .loop .inv .1) _ (entry (costed .before)), costed .cost .ensures .fits)
+    omega (arith, sums-fit (start (turn .before .before) .pre .0) _ (turn .loop-test .taken) (turn .before .loop .inv .1) _ (entry (costed .before)), costed .cost .ensures .fits)
 
 element-write-sums : tie.Need-element-write-sums Inv-loop μ-loop
 element-write-sums c = omega (arith, entry (c .before .before))
@@ -67,23 +70,18 @@ loop-less : tie.Need-loop-less Inv-loop μ-loop
 loop-less c = search needs
 
 loop-again : tie.Need-loop-again Inv-loop μ-loop
+unfolding total owns
 loop-again c =
-    let costed = c .before .before in
+    let costed = c .before in
     let read = costed .before in
-    let raised = added-raised (read .before .before .loop .inv .1) (read .owner .ensures .is) (costed .cost .ensures .is) (entry read) in
-    let kept = added-kept (read .before .before .loop .inv .1) (read .owner .ensures .is) (costed .cost .ensures .is) (entry read) in
-    ⊎-elim (λ w. (omega arith, rw (w .2) (raised (w .0 .taken) (le-of-lt (ltb-true _ _ (w .1 .taken))))))
-    (λ w. (
-      omega arith,
-      rw (w .1) (kept (λ own. ⊎-elim (λ u. ltb-false _ _ (u .1 .left)) (λ u. absurd (u .left own)) (w .0 .came))),
-    ))
-    (c .if1 .came)
+    (omega arith, sums-next _ _ (sym (read .owner .ensures .is)) (read .before .before .loop .inv .1) (entry read) (rw (costed .cost .ensures .is)))
 
 returns : tie.Need-returns Inv-loop μ-loop
+unfolding costTo asMarked
 returns c =
     let loop = c .before .loop in
     let at = start (c .before .before) in
-    let all : loop .c ≡ at .args .m = omega arith in
+    let all : loop .c ≡ choresOf (at .args .sheet .now) = omega (arith, at .pre .0 .chores) in
     rw all at (loop .inv .1)
 
 pub add-costs-spec : {M : Type 1} → statement M

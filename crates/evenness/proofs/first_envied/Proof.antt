@@ -1,9 +1,9 @@
 -- `evenness::first_envied` meets its contract: whom agent i envies is told by the sums.
-use mathlib.Core.Path.{_∙_}
+use mathlib.Core.Path.{sym, _∙_}
 use native.Mathlib.Omega.{arith}
 use borrow.Author.Needs.{needs}
 use Rattle.given.proofs.Given.{given-agents}
-use Rattle.evenness.proofs.Costs.{costliest-part, envied-first}
+use Rattle.evenness.proofs.Sums.{off-part, envied-first, envied-none}
 use Rattle.evenness.proofs.first_envied.Statement.{statement}
 use Rattle.evenness.proofs.first_envied.Tie as tie
 
@@ -19,23 +19,42 @@ add-costs-requires c κs =
     let p = c .before .before .before .before .pre in
     (given-agents (p .0), (omega (arith, p .0 .agents), c .before .zeros .ensures))
 
-mul-rest : tie.Need-mul-rest
-mul-rest c = search needs
+mul-own : tie.Need-mul-own
+mul-own c = search needs
 
-array-read-rest : tie.Need-array-read-rest
-array-read-rest c = search needs
-
-sub-rest : tie.Need-sub-rest
-sub-rest c = let p = start c .pre in costliest-part (p .0) (c .add-costs .ensures) (p .1)
+array-read-own : tie.Need-array-read-own
+array-read-own c = search needs
 
 first-below-requires : tie.Need-first-below-requires
 first-below-requires c κs = search needs
 
 returns : tie.Need-returns
 returns c =
-    let costs = c .before .before in
+    let below = c .before in
+    let costs = below .before .before in
     let p = start costs .pre in
-    c .first-below .ensures ∙ envied-first (p .0) (costs .add-costs .ensures) (p .1)
+    envied-none (p .0) _ (p .1) (costs .add-costs .ensures) (sym (c .if1 .taken) ∙ below .first-below .ensures)
+
+costliest-requires : tie.Need-costliest-requires
+costliest-requires c κs =
+    let p = start (c .before .before .before) .pre in
+    (given-agents (p .0), omega (arith, p .0 .agents))
+
+sub-rest : tie.Need-sub-rest
+sub-rest c =
+    let costs = c .before .before .before .before in
+    let p = start costs .pre in
+    off-part (p .0) _ (p .1) (costs .add-costs .ensures) (c .costliest .ensures)
+
+first-below-requires-2 : tie.Need-first-below-requires-2
+first-below-requires-2 c κs = search needs
+
+returns-2 : tie.Need-returns-2
+returns-2 c =
+    let off = c .before .before in
+    let costs = off .before .before .before .before in
+    let p = start costs .pre in
+    c .first-below2 .ensures ∙ envied-first (p .0) _ (p .1) (costs .add-costs .ensures) (off .costliest .ensures)
 
 pub first-envied-spec : {M : Type 1} → statement M
 first-envied-spec =
@@ -43,8 +62,11 @@ first-envied-spec =
     (tie.spec
     zeros-requires
     add-costs-requires
-    mul-rest
-    array-read-rest
-    sub-rest
+    mul-own
+    array-read-own
     first-below-requires
-    returns)
+    returns
+    costliest-requires
+    sub-rest
+    first-below-requires-2
+    returns-2)
