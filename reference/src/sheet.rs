@@ -55,9 +55,28 @@ impl<'a> Sheet<'a> {
         Ok(())
     }
 
-    /// The one place where a mark is read.
     pub fn is_difficult(&self, agent: usize, chore: usize) -> bool {
-        self.marks[agent * self.chores + chore] == DIFFICULT_MARK
+        self.row(agent)[chore] == DIFFICULT_MARK
+    }
+
+    /// What a chore costs an agent, as marked.
+    pub fn cost(&self, agent: usize, chore: usize) -> u32 {
+        self.mark_cost(self.row(agent)[chore])
+    }
+
+    /// What each chore costs an agent, as marked.
+    pub fn costs(&self, agent: usize) -> impl Iterator<Item = u32> + '_ {
+        self.row(agent).iter().map(|&mark| self.mark_cost(mark))
+    }
+
+    /// The one place where marks are read.
+    fn row(&self, agent: usize) -> &[u8] {
+        &self.marks[agent * self.chores..][..self.chores]
+    }
+
+    /// Without a branch: the difficult mark's byte is one below the easy one's.
+    fn mark_cost(&self, mark: u8) -> u32 {
+        self.easy + (self.difficult - self.easy) * u32::from(EASY_MARK - mark)
     }
 }
 
