@@ -24,6 +24,7 @@ pub mod refusal;
 pub mod search;
 pub mod share_out;
 pub mod sheet;
+pub mod sums;
 pub mod why;
 
 pub use book::{allocate_book, lookup, BookShareOut, SheetShareOut, Tally};

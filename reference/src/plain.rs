@@ -9,6 +9,7 @@ use crate::limits::MAX_AGENTS;
 use crate::search::Move;
 use crate::share_out::Worked;
 use crate::sheet::Sheet;
+use crate::sums::Sums;
 
 const UNREACHED: usize = usize::MAX;
 
@@ -25,8 +26,7 @@ struct Plain {
     entitled: Vec<bool>,
     group: [usize; MAX_AGENTS],
     groups: usize,
-    sum: [u32; MAX_AGENTS],
-    up_to_one: [u32; MAX_AGENTS],
+    held: Sums,
     distance: [usize; MAX_AGENTS],
     moves: u64,
 }
@@ -59,8 +59,7 @@ impl Plain {
             entitled: vec![false; chores],
             group: [0; MAX_AGENTS],
             groups: 0,
-            sum: [0; MAX_AGENTS],
-            up_to_one: [0; MAX_AGENTS],
+            held: Sums::default(),
             distance: [UNREACHED; MAX_AGENTS],
             moves: 0,
         };
@@ -119,18 +118,8 @@ impl Plain {
         }
     }
 
-    /// Every agent's sum, and its price up to one chore.
     fn add_up(&mut self) {
-        let mut dearest = [0; MAX_AGENTS];
-        self.sum = [0; MAX_AGENTS];
-        for (&agent, &price) in self.owner.iter().zip(&self.price) {
-            let agent = usize::from(agent);
-            self.sum[agent] += price;
-            dearest[agent] = price.max(dearest[agent]);
-        }
-        for (agent, dearest) in dearest.iter().enumerate() {
-            self.up_to_one[agent] = self.sum[agent] - dearest;
-        }
+        self.held.add_up(&self.owner, &self.price);
     }
 
     fn make(&mut self, step: Move) {
@@ -148,21 +137,22 @@ impl Plain {
     }
 
     fn move_of_2a(&self, group: usize) -> Option<Move> {
+        let held = &self.held;
         let mut giver = None;
         let mut receiver = None;
         for agent in 0..self.agents {
             if self.group[agent] == group {
-                if giver.is_none_or(|i: usize| self.up_to_one[agent] > self.up_to_one[i]) {
+                if giver.is_none_or(|i: usize| held.up_to_one[agent] > held.up_to_one[i]) {
                     giver = Some(agent);
                 }
             } else if self.group[agent] > group
-                && receiver.is_none_or(|i: usize| self.sum[agent] < self.sum[i])
+                && receiver.is_none_or(|i: usize| held.sum[agent] < held.sum[i])
             {
                 receiver = Some(agent);
             }
         }
         let (giver, receiver) = (giver?, receiver?);
-        if self.up_to_one[giver] <= self.sum[receiver] {
+        if held.up_to_one[giver] <= held.sum[receiver] {
             return None;
         }
         let goes = |&r: &usize| usize::from(self.owner[r]) == giver && !self.entitled[r];
@@ -181,7 +171,7 @@ impl Plain {
     }
 
     fn least(&self) -> u32 {
-        let sums = self.sum[..self.agents].iter().copied();
+        let sums = self.held.sum[..self.agents].iter().copied();
         sums.min().expect("a sheet has an agent")
     }
 
@@ -190,7 +180,7 @@ impl Plain {
         let least = self.least();
         let mut unreached = 0;
         for agent in 0..self.agents {
-            let starts = self.sum[agent] == least;
+            let starts = self.held.sum[agent] == least;
             self.distance[agent] = if starts { 0 } else { UNREACHED };
             unreached += usize::from(!starts);
         }
@@ -199,7 +189,7 @@ impl Plain {
         while unreached > 0 {
             let found = self.next_ring(ring, unreached, &mut link);
             ring += 1;
-            let gives = |&i: &usize| self.distance[i] == ring && self.up_to_one[i] > least;
+            let gives = |&i: &usize| self.distance[i] == ring && self.held.up_to_one[i] > least;
             if let Some(giver) = (0..self.agents).find(gives) {
                 let (receiver, chore) = link[giver];
                 return Some(Move {
@@ -254,7 +244,7 @@ impl Plain {
 
     fn is_done(&self) -> bool {
         let least = self.least();
-        let mut all = self.up_to_one[..self.agents].iter();
+        let mut all = self.held.up_to_one[..self.agents].iter();
         all.all(|&up_to_one| up_to_one <= least)
     }
 
