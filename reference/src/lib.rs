@@ -25,6 +25,7 @@ pub mod search;
 pub mod share_out;
 pub mod sheet;
 pub mod sums;
+pub mod waste;
 pub mod why;
 
 pub use book::{allocate_book, lookup, BookShareOut, SheetShareOut, Tally};

@@ -2,7 +2,7 @@
 
 mod common;
 
-use common::{a, b, c, d, e, f, g, share, Random};
+use common::{a, all_lists, b, c, d, e, f, g, share, Random};
 use reference::algorithm;
 use reference::compose;
 use reference::costs::Costs;
@@ -104,17 +104,6 @@ fn a_row_of_difficult_marks_is_read_as_easy_first() {
 
 fn as_read(sheet: &[u8]) -> Costs {
     Costs::as_read(&Sheet::parse(sheet).unwrap())
-}
-
-/// Every list of owners, agents counted from 0.
-fn all_lists(agents: usize, chores: usize) -> Vec<Vec<usize>> {
-    let mut lists = vec![Vec::new()];
-    for _ in 0..chores {
-        let with = |list: &Vec<usize>, agent: usize| [&list[..], &[agent]].concat();
-        let longer = |list| (0..agents).map(move |agent| with(list, agent));
-        lists = lists.iter().flat_map(longer).collect();
-    }
-    lists
 }
 
 fn total(costs: &Costs, owner: &[usize]) -> u64 {

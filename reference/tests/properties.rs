@@ -2,7 +2,7 @@
 
 mod common;
 
-use common::{share, Random};
+use common::{every_rows, share, Random};
 use reference::costs::Costs;
 use reference::fairness::first_unfair_pair;
 use reference::sheet::Sheet;
@@ -39,10 +39,7 @@ fn every_tiny_sheet() {
         (3, 4),
         (4, 3),
     ] {
-        for code in 0..1_usize << (agents * chores) {
-            let mark = |place: usize| if code >> place & 1 == 1 { 'd' } else { 'e' };
-            let row = |i: usize| (0..chores).map(|r| mark(i * chores + r)).collect();
-            let rows: Vec<String> = (0..agents).map(row).collect();
+        for rows in every_rows(agents, chores) {
             judge_small(&compose::sheet(1, 3, &rows));
             judge_small(&compose::sheet(2, 3, &rows));
         }

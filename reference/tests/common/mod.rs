@@ -2,6 +2,7 @@
 #![allow(dead_code)]
 
 use reference::limits::{MAX_WEIGHT, MIN_SCRATCH};
+use reference::share_out::owner_byte;
 use reference::{allocate, compose, ShareOut};
 
 /// The sheets to try, by their letter.
@@ -40,6 +41,41 @@ pub fn share(sheet: &[u8]) -> Outcome {
         ShareOut::Refused(number) => Err(number),
         ShareOut::Shared { moves, cuts } => Ok((owners, prices, moves, cuts)),
     }
+}
+
+/// Up to 3 agents and 4 chores.
+pub fn tiny_sizes() -> impl Iterator<Item = (usize, usize)> {
+    (1..=3).flat_map(|agents| (0..=4).map(move |chores| (agents, chores)))
+}
+
+/// The rows of every sheet of this size.
+pub fn every_rows(agents: usize, chores: usize) -> impl Iterator<Item = Vec<String>> {
+    (0..1_usize << (agents * chores)).map(move |code| {
+        let is_easy = |place: usize| code >> place & 1 == 0;
+        let row = |i: usize| (0..chores).map(|r| mark(is_easy(i * chores + r))).collect();
+        (0..agents).map(row).collect()
+    })
+}
+
+/// Every list of owners, agents counted from 0.
+pub fn all_lists(agents: usize, chores: usize) -> Vec<Vec<usize>> {
+    let mut lists = vec![Vec::new()];
+    for _ in 0..chores {
+        let with = |list: &Vec<usize>, agent: usize| [&list[..], &[agent]].concat();
+        let longer = |list| (0..agents).map(move |agent| with(list, agent));
+        lists = lists.iter().flat_map(longer).collect();
+    }
+    lists
+}
+
+/// The owners as bytes, counted from 1.
+pub fn owner_bytes(owner: &[usize]) -> Vec<u8> {
+    owner.iter().map(|&agent| owner_byte(agent)).collect()
+}
+
+/// Four bytes a price, high byte first.
+pub fn as_bytes(prices: &[u32]) -> Vec<u8> {
+    prices.iter().copied().flat_map(u32::to_be_bytes).collect()
 }
 
 /// A small generator of numbers that are the same on every run.
