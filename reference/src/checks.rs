@@ -16,7 +16,7 @@ pub enum ListVerdict {
     Unfair(usize, usize),
     /// A dominating allocation stands in the first m lent entries.
     Wasteful,
-    /// EF1, but there are too many allocations to look for waste.
+    /// EF1, but there are too many allocations to try them all for waste.
     Undecided,
 }
 
@@ -90,19 +90,22 @@ pub fn is_small_enough(sheet: &[u8]) -> bool {
 
 /// The costs as marked, and the owners counted from 0.
 fn judged(sheet: &[u8], owners: &[u8]) -> Result<(Costs, Vec<usize>), u8> {
+    let sheet = accepted(sheet, owners)?;
+    let owner = owners.iter().map(|&number| usize::from(number) - 1);
+    Ok((Costs::as_marked(&sheet), owner.collect()))
+}
+
+/// The sheet, if neither it nor the list of its owners breaks a rule.
+pub fn accepted<'a>(sheet: &'a [u8], owners: &[u8]) -> Result<Sheet<'a>, u8> {
     let sheet = Sheet::parse(sheet)?;
     if owners.len() != sheet.chores {
         return Err(refusal::OWNER_COUNT);
     }
-    let mut owner = Vec::with_capacity(owners.len());
-    for &number in owners {
-        let number = usize::from(number);
-        if number == 0 || number > sheet.agents {
-            return Err(refusal::OWNER);
-        }
-        owner.push(number - 1);
+    let known = |&number: &u8| (1..=sheet.agents).contains(&usize::from(number));
+    if !owners.iter().all(known) {
+        return Err(refusal::OWNER);
     }
-    Ok((Costs::as_marked(&sheet), owner))
+    Ok(sheet)
 }
 
 /// The first chore that is not a best chore of its owner.

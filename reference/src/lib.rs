@@ -17,6 +17,7 @@ pub mod fairness;
 pub mod limits;
 pub mod output;
 pub mod plain;
+pub mod plain_checks;
 pub mod price_bytes;
 pub mod pricing;
 pub mod record;

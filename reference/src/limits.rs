@@ -18,5 +18,5 @@ pub const MAX_BOOK_BYTES: usize = 65_535;
 pub const BOOK_ENTRIES: usize = MAX_SHEETS * MAX_CHORES;
 /// Bytes of the record that `why` lends for each sheet.
 pub const WHY_RECORD_BYTES: usize = 65_532;
-/// Waste is only decided where at most so many allocations exist.
+/// All allocations are tried for waste only where there are at most so many.
 pub const MAX_ALLOCATIONS_TRIED: usize = 2_000_000;

@@ -2,9 +2,9 @@
 
 mod common;
 
-use common::{b, c, share};
+use common::{as_bytes, b, c, share};
 use reference::limits::MIN_SCRATCH;
-use reference::{allocate, check_list, check_prices, compose, record};
+use reference::{allocate, check_list, check_prices, compose, plain_checks, price_bytes, record};
 use reference::{ListVerdict, PriceVerdict, ShareOut};
 
 /// Faults of a sheet, in the order in which they are found.
@@ -85,9 +85,11 @@ fn check_list_finds_the_first_of_any_faults() {
         owners[3] = if has(7) { 3 } else { 2 };
         let mut shown = vec![77; if has(8) { 3 } else { 6 }];
         let expected = first_fault(faults, &numbers).unwrap();
-        let answer = check_list(&sheet, &owners, &mut shown);
-        assert_eq!(answer, ListVerdict::Refused(expected), "faults {faults:b}");
-        assert!(shown.iter().all(|&entry| entry == 77));
+        for check in [check_list, plain_checks::check_list] {
+            let answer = check(&sheet, &owners, &mut shown);
+            assert_eq!(answer, ListVerdict::Refused(expected), "faults {faults:b}");
+            assert!(shown.iter().all(|&entry| entry == 77));
+        }
     }
 }
 
@@ -102,8 +104,14 @@ fn check_prices_finds_the_first_of_any_faults() {
         let mut prices = vec![6; if has(8) { 5 } else { 4 }];
         prices[1] = if has(9) { 0 } else { 6 };
         let expected = first_fault(faults, &numbers).unwrap();
-        let answer = check_prices(&sheet, &owners, &prices);
-        assert_eq!(answer, PriceVerdict::Refused(expected), "faults {faults:b}");
+        let bytes = as_bytes(&prices);
+        for answer in [
+            check_prices(&sheet, &owners, &prices),
+            price_bytes::check(&sheet, &owners, &bytes),
+            plain_checks::check_prices(&sheet, &owners, &bytes),
+        ] {
+            assert_eq!(answer, PriceVerdict::Refused(expected), "faults {faults:b}");
+        }
     }
 }
 
@@ -179,6 +187,10 @@ fn no_chores_need_no_entries() {
     let answer = allocate(&sheet, &mut [], &mut [], &mut scratch);
     assert_eq!(answer, ShareOut::Shared { moves: 0, cuts: 0 });
     assert_eq!(scratch, [0; MIN_SCRATCH]);
-    assert_eq!(check_list(&sheet, &[], &mut []), ListVerdict::Holds);
-    assert_eq!(check_prices(&sheet, &[], &[]), PriceVerdict::Accepted);
+    for check in [check_list, plain_checks::check_list] {
+        assert_eq!(check(&sheet, &[], &mut []), ListVerdict::Holds);
+    }
+    for check in [price_bytes::check, plain_checks::check_prices] {
+        assert_eq!(check(&sheet, &[], &[]), PriceVerdict::Accepted);
+    }
 }
