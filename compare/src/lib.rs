@@ -1,6 +1,7 @@
 //! The proved library by its C interface, as safe calls on slices, and the
-//! plain C program likewise. Answers that C gets through pointers stay lent
-//! here, so that tests see what a refusal does to them.
+//! plain C program likewise; the second program's checks beside them. Answers
+//! that C gets through pointers stay lent here, so that tests see what a refusal
+//! does to them.
 
 pub mod books;
 pub mod bound;
@@ -11,7 +12,7 @@ pub mod lists;
 pub mod random;
 pub mod shapes;
 
-pub use library::{Library, PLAIN, PROVED};
+pub use library::{Checks, Library, Second, PLAIN, PROVED};
 
 /// Entries of each list that tells what became of a book's sheets.
 pub const BOOK_SHEETS: usize = 16;

@@ -1,7 +1,28 @@
-//! The calls that the proved library and the plain C program both have.
+//! The calls that the proved library and the plain C program both have, and the
+//! two checks that the second program has as well.
 
 use crate::c;
-use reference::{ListVerdict, PriceVerdict};
+use reference::{plain_checks, ListVerdict, PriceVerdict};
+
+/// The two checks of any program. Prices are bytes, four to a price.
+pub trait Checks {
+    fn check_list(&self, sheet: &[u8], owners: &[u8], dominating: &mut [u8]) -> ListVerdict;
+    fn check_prices(&self, sheet: &[u8], owners: &[u8], prices: &[u8]) -> PriceVerdict;
+}
+
+/// The second program, by its checks over flat lists.
+#[derive(Debug)]
+pub struct Second;
+
+impl Checks for Second {
+    fn check_list(&self, sheet: &[u8], owners: &[u8], dominating: &mut [u8]) -> ListVerdict {
+        plain_checks::check_list(sheet, owners, dominating)
+    }
+
+    fn check_prices(&self, sheet: &[u8], owners: &[u8], prices: &[u8]) -> PriceVerdict {
+        plain_checks::check_prices(sheet, owners, prices)
+    }
+}
 
 #[derive(Debug)]
 pub struct Library {
@@ -67,9 +88,11 @@ impl Library {
             )
         }
     }
+}
 
-    pub fn check_list(&self, sheet: &[u8], owners: &[u8], dominating: &mut [u8]) -> ListVerdict {
-        // SAFETY: as in `allocate`.
+impl Checks for Library {
+    fn check_list(&self, sheet: &[u8], owners: &[u8], dominating: &mut [u8]) -> ListVerdict {
+        // SAFETY: as in `Library::allocate`.
         let number = unsafe {
             (self.check_list)(
                 sheet.as_ptr(),
@@ -89,9 +112,8 @@ impl Library {
         }
     }
 
-    /// Prices are bytes, four to a price.
-    pub fn check_prices(&self, sheet: &[u8], owners: &[u8], prices: &[u8]) -> PriceVerdict {
-        // SAFETY: as in `allocate`.
+    fn check_prices(&self, sheet: &[u8], owners: &[u8], prices: &[u8]) -> PriceVerdict {
+        // SAFETY: as in `Library::allocate`.
         let number = unsafe {
             (self.check_prices)(
                 sheet.as_ptr(),

@@ -2,7 +2,7 @@
 //! writes looked at.
 
 use crate::random::{self, damaged, Random};
-use crate::{shapes, Library};
+use crate::{shapes, Checks};
 use reference::limits::MIN_SCRATCH;
 use reference::{dominates, ListVerdict, PriceVerdict};
 
@@ -59,13 +59,13 @@ pub struct Given {
 }
 
 impl Given {
-    /// The library's list check, with what it may write looked at.
-    pub fn judged(&self, library: &Library, random: &mut Random) -> ListVerdict {
-        judged(library, &self.sheet, &self.owners, self.lent, random)
+    /// A program's list check, with what it may write looked at.
+    pub fn judged(&self, program: &dyn Checks, random: &mut Random) -> ListVerdict {
+        judged(program, &self.sheet, &self.owners, self.lent, random)
     }
 
-    pub fn check_prices(&self, library: &Library) -> PriceVerdict {
-        library.check_prices(&self.sheet, &self.owners, &self.prices)
+    pub fn check_prices(&self, program: &dyn Checks) -> PriceVerdict {
+        program.check_prices(&self.sheet, &self.owners, &self.prices)
     }
 }
 
@@ -110,9 +110,9 @@ fn price(random: &mut Random) -> u32 {
     }
 }
 
-/// The library's list check, with what it may write looked at.
+/// A program's list check, with what it may write looked at.
 pub fn judged(
-    library: &Library,
+    program: &dyn Checks,
     sheet: &[u8],
     owners: &[u8],
     lent: usize,
@@ -120,7 +120,7 @@ pub fn judged(
 ) -> ListVerdict {
     let before: Vec<u8> = (0..lent + 8).map(|_| random.byte()).collect();
     let mut after = before.clone();
-    let verdict = library.check_list(sheet, owners, &mut after[..lent]);
+    let verdict = program.check_list(sheet, owners, &mut after[..lent]);
     if verdict == ListVerdict::Wasteful {
         let chores = usize::from(sheet[1]);
         assert!(

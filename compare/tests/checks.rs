@@ -2,16 +2,37 @@
 
 use compare::lists::{bytes, damaged_given, judged, near_accepted, near_fair};
 use compare::random::{self, Random};
-use compare::{shapes, PROVED};
+use compare::{shapes, Checks, Second, PROVED};
 use reference::limits::{MAX_AGENTS, MAX_CHORES, MAX_PRICE};
-use reference::{check_list, compose, is_small_enough, price_bytes, ListVerdict};
+use reference::{check_list, compose, is_small_enough, price_bytes, ListVerdict, PriceVerdict};
 
 const SMALL: usize = 20_000;
 const LARGE: usize = 2_000;
 
-/// The second program's list check; `Undecided` on large sheets.
-fn expected(sheet: &[u8], owners: &[u8], lent: usize) -> ListVerdict {
-    check_list(sheet, owners, &mut vec![0; lent])
+/// The second program's verdict, by its check for sheets of any size. Where there
+/// are few enough allocations to try, its other check says the same.
+fn expected(sheet: &[u8], owners: &[u8], lent: usize, random: &mut Random) -> ListVerdict {
+    let fast = judged(&Second, sheet, owners, lent, random);
+    match check_list(sheet, owners, &mut vec![0; lent]) {
+        ListVerdict::Undecided => {}
+        slow => assert_eq!(fast, slow, "{sheet:?} {owners:?}"),
+    }
+    fast
+}
+
+/// The library's verdict on an accepted list, which is the second program's:
+/// 0 for a list that holds, 1 for an unfair and 2 for a wasteful one.
+fn kind(sheet: &[u8], owners: &[u8], random: &mut Random) -> usize {
+    let lent = owners.len() + random.below(3);
+    let verdict = judged(&PROVED, sheet, owners, lent, random);
+    let expected = expected(sheet, owners, lent, random);
+    assert_eq!(verdict, expected, "{sheet:?} {owners:?}");
+    match verdict {
+        ListVerdict::Holds => 0,
+        ListVerdict::Unfair(..) => 1,
+        ListVerdict::Wasteful => 2,
+        other => panic!("{other:?}"),
+    }
 }
 
 #[test]
@@ -28,43 +49,35 @@ fn small_lists_get_the_same_verdict() {
         } else {
             random::owners(&mut random, agents, chores)
         };
-        let lent = chores + random.below(3);
-        let verdict = judged(&PROVED, &sheet, &owners, lent, &mut random);
-        assert_eq!(
-            verdict,
-            expected(&sheet, &owners, lent),
-            "{sheet:?} {owners:?}"
-        );
-        match verdict {
-            ListVerdict::Holds => seen[0] += 1,
-            ListVerdict::Unfair(..) => seen[1] += 1,
-            ListVerdict::Wasteful => seen[2] += 1,
-            other => panic!("{other:?}"),
-        }
+        seen[kind(&sheet, &owners, &mut random)] += 1;
     }
     assert!(seen.iter().all(|&count| count > SMALL / 50), "{seen:?}");
 }
 
-#[test]
-fn large_lists_get_the_same_pair_or_a_dominating_list() {
-    let mut random = Random::new(2);
-    let (mut holds, mut wasteful) = (0, 0);
+/// Compares lists near the share-out's. Hands back how many are of each kind on
+/// sheets with too many allocations to try them all.
+fn kinds_of_large(seed: u64, make: fn(&mut Random) -> Vec<u8>) -> [usize; 3] {
+    let mut random = Random::new(seed);
+    let mut seen = [0; 3];
     for _ in 0..LARGE {
-        let sheet = shapes::any_sheet(&mut random);
+        let sheet = make(&mut random);
         let owners = near_fair(&sheet, &mut random);
-        let lent = owners.len();
-        let verdict = judged(&PROVED, &sheet, &owners, lent, &mut random);
-        match expected(&sheet, &owners, lent) {
-            ListVerdict::Undecided => {
-                let decided = matches!(verdict, ListVerdict::Holds | ListVerdict::Wasteful);
-                assert!(decided, "{sheet:?} {owners:?} {verdict:?}");
-            }
-            other => assert_eq!(verdict, other, "{sheet:?} {owners:?}"),
-        }
-        holds += usize::from(verdict == ListVerdict::Holds);
-        wasteful += usize::from(verdict == ListVerdict::Wasteful);
+        let kind = kind(&sheet, &owners, &mut random);
+        seen[kind] += usize::from(!is_small_enough(&sheet));
     }
-    assert!(holds > 100 && wasteful > 100, "{holds} {wasteful}");
+    seen
+}
+
+#[test]
+fn lists_of_any_size_get_the_same_verdict() {
+    let seen = kinds_of_large(2, shapes::any_sheet);
+    assert!(seen.iter().all(|&count| count > LARGE / 40), "{seen:?}");
+}
+
+#[test]
+fn large_lists_get_the_same_verdict() {
+    let seen = kinds_of_large(6, shapes::large_sheet);
+    assert!(seen.iter().all(|&count| count > LARGE / 20), "{seen:?}");
 }
 
 #[test]
@@ -73,16 +86,22 @@ fn damaged_sheets_and_lists_get_the_same_number() {
     for _ in 0..SMALL {
         let given = damaged_given(&mut random);
         let verdict = given.judged(&PROVED, &mut random);
-        match expected(&given.sheet, &given.owners, given.lent) {
-            ListVerdict::Undecided => {}
-            other => assert_eq!(verdict, other, "{given:?}"),
-        }
-        assert_eq!(
-            given.check_prices(&PROVED),
-            price_bytes::check(&given.sheet, &given.owners, &given.prices),
-            "{given:?}"
-        );
+        let expected = expected(&given.sheet, &given.owners, given.lent, &mut random);
+        assert_eq!(verdict, expected, "{given:?}");
+        compare_prices(&given.sheet, &given.owners, &given.prices);
     }
+}
+
+/// The library's verdict, which the second program shares by both its checks.
+fn compare_prices(sheet: &[u8], owners: &[u8], prices: &[u8]) -> PriceVerdict {
+    let verdict = PROVED.check_prices(sheet, owners, prices);
+    for expected in [
+        price_bytes::check(sheet, owners, prices),
+        Second.check_prices(sheet, owners, prices),
+    ] {
+        assert_eq!(verdict, expected, "{sheet:?} {owners:?} {prices:?}");
+    }
+    verdict
 }
 
 #[test]
@@ -92,13 +111,8 @@ fn price_lists_get_the_same_verdict() {
     for _ in 0..SMALL {
         let sheet = shapes::any_sheet(&mut random);
         let (owners, prices) = near_accepted(&sheet, &mut random);
-        let verdict = PROVED.check_prices(&sheet, &owners, &prices);
-        assert_eq!(
-            verdict,
-            price_bytes::check(&sheet, &owners, &prices),
-            "{sheet:?} {owners:?} {prices:?}"
-        );
-        accepted += usize::from(verdict == reference::PriceVerdict::Accepted);
+        let verdict = compare_prices(&sheet, &owners, &prices);
+        accepted += usize::from(verdict == PriceVerdict::Accepted);
     }
     assert!(accepted > SMALL / 20 && accepted < SMALL, "{accepted}");
 }
@@ -113,10 +127,6 @@ fn greatest_prices_get_the_same_verdict() {
         let sheet = compose::sheet(999, 1000, &vec!["e".repeat(MAX_CHORES); agents]);
         let holders = 1 + random.below(agents);
         let owners = random::owners(&mut random, holders, MAX_CHORES);
-        assert_eq!(
-            PROVED.check_prices(&sheet, &owners, &prices),
-            price_bytes::check(&sheet, &owners, &prices),
-            "{agents} {owners:?}"
-        );
+        compare_prices(&sheet, &owners, &prices);
     }
 }

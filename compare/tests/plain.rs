@@ -5,7 +5,7 @@ use compare::lent::{assert_all_hold, enough, short, Lengths, Lent};
 use compare::lists::{damaged_given, judged, near_accepted, near_fair};
 use compare::random::{self, damaged, Random};
 use compare::shapes::{self, Shape};
-use compare::{Library, PLAIN, PROVED};
+use compare::{Checks, Library, PLAIN, PROVED};
 use reference::{ListVerdict, PriceVerdict};
 
 const SHEETS: usize = 10_000;

@@ -4,7 +4,7 @@ use crate::sheets::{halves, sheets};
 use crate::timing::in_turn;
 use compare::lists::{bytes, shared_out, Given};
 use compare::random::Random;
-use compare::{Library, PLAIN, PROVED};
+use compare::{Checks, Library, PLAIN, PROVED};
 use reference::limits::MAX_CHORES;
 use reference::{ListVerdict, PriceVerdict};
 
