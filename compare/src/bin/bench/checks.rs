@@ -1,26 +1,29 @@
-//! The two checks: proved, and in plain C.
+//! The two checks: proved, in plain C, and the second program's.
 
 use crate::sheets::{halves, sheets};
 use crate::timing::in_turn;
 use compare::lists::{bytes, shared_out, Given};
 use compare::random::Random;
-use compare::{Checks, Library, PLAIN, PROVED};
+use compare::{Checks, Second, PLAIN, PROVED};
 use reference::limits::MAX_CHORES;
 use reference::{ListVerdict, PriceVerdict};
 
+/// In the order of their columns.
+const PROGRAMS: [&dyn Checks; 3] = [&PROVED, &PLAIN, &Second];
+
 /// The share-out's list and prices: it holds, and they are accepted.
-fn fair(sheet: Vec<u8>) -> Given {
-    let (owners, prices) = shared_out(&sheet);
+fn fair(sheet: &[u8]) -> Given {
+    let (owners, prices) = shared_out(sheet);
     Given {
         lent: owners.len(),
-        sheet,
+        sheet: sheet.to_vec(),
         owners,
         prices: bytes(prices),
     }
 }
 
 /// The same with two chores swapped, so that the list is wasteful.
-fn wasteful(random: &mut Random, sheet: Vec<u8>) -> Given {
+fn wasteful(random: &mut Random, sheet: &[u8]) -> Given {
     let mut given = fair(sheet);
     let chores = given.owners.len();
     loop {
@@ -33,62 +36,95 @@ fn wasteful(random: &mut Random, sheet: Vec<u8>) -> Given {
     }
 }
 
-fn check_list(library: &Library, given: &Given) -> ListVerdict {
-    let lent = &mut [0; MAX_CHORES][..given.lent];
-    library.check_list(&given.sheet, &given.owners, lent)
-}
-
-fn row(name: &str, all: &[Given], check: impl Fn(&Library, &Given)) {
-    let [proved, plain] = in_turn([
-        &mut || all.iter().for_each(|given| check(&PROVED, given)),
-        &mut || all.iter().for_each(|given| check(&PLAIN, given)),
-    ]);
-    println!("{name:<39}{proved:>9.2}{plain:>9.2}{:>7.2}", proved / plain);
-}
-
-fn list_row(random: &mut Random, name: &str, all: &[Given], expected: ListVerdict) {
-    for given in all {
-        for library in [&PROVED, &PLAIN] {
-            assert_eq!(given.judged(library, random), expected, "{given:?}");
+/// The same with chores handed to the last agent, so that it envies somebody
+/// and nobody before it does: all agents are looked at.
+fn unfair(random: &mut Random, sheet: &[u8]) -> Given {
+    loop {
+        let mut given = fair(sheet);
+        let envious = first_envious(random, &mut given);
+        if envious == usize::from(sheet[0]) {
+            return given;
         }
     }
-    row(name, all, |library, given| {
-        check_list(library, given);
+}
+
+/// Hands chores to the last agent until somebody envies.
+fn first_envious(random: &mut Random, given: &mut Given) -> usize {
+    loop {
+        let chore = random.below(given.owners.len());
+        given.owners[chore] = given.sheet[0];
+        if let ListVerdict::Unfair(envious, _) = check_list(&PROVED, given) {
+            return envious;
+        }
+    }
+}
+
+fn check_list(program: &dyn Checks, given: &Given) -> ListVerdict {
+    let lent = &mut [0; MAX_CHORES][..given.lent];
+    program.check_list(&given.sheet, &given.owners, lent)
+}
+
+fn row(name: &str, all: &[Given], check: impl Fn(&dyn Checks, &Given)) {
+    let run = |program| all.iter().for_each(|given| check(program, given));
+    let [proved, plain, second] = PROGRAMS;
+    let [proved, plain, second] =
+        in_turn([&mut || run(proved), &mut || run(plain), &mut || run(second)]);
+    println!(
+        "{name:<39}{proved:>9.2}{plain:>9.2}{:>7.2}{second:>11.2}{:>7.2}",
+        proved / plain,
+        proved / second
+    );
+}
+
+/// All three must say what is expected.
+fn list_row(
+    random: &mut Random,
+    name: &str,
+    all: &[Given],
+    is_expected: impl Fn(ListVerdict) -> bool,
+) {
+    for given in all {
+        let [proved, plain, second] = PROGRAMS.map(|program| given.judged(program, random));
+        assert!(is_expected(second), "{second:?} {given:?}");
+        assert_eq!(proved, second, "{given:?}");
+        assert_eq!(plain, second, "{given:?}");
+    }
+    row(name, all, |program, given| {
+        check_list(program, given);
     });
 }
 
 fn price_row(name: &str, all: &[Given]) {
     for given in all {
-        for library in [&PROVED, &PLAIN] {
-            let verdict = given.check_prices(library);
-            assert_eq!(verdict, PriceVerdict::Accepted, "{given:?}");
-        }
+        let verdicts = PROGRAMS.map(|program| given.check_prices(program));
+        assert_eq!(verdicts, [PriceVerdict::Accepted; 3], "{given:?}");
     }
-    row(name, all, |library, given| {
-        given.check_prices(library);
+    row(name, all, |program, given| {
+        given.check_prices(program);
     });
+}
+
+fn rows(random: &mut Random, agents: usize, chores: usize) {
+    let sheets = sheets(random, halves, agents, chores);
+    let fair: Vec<Given> = sheets.iter().map(|sheet| fair(sheet)).collect();
+    let unfair: Vec<Given> = sheets.iter().map(|sheet| unfair(random, sheet)).collect();
+    let wasteful: Vec<Given> = sheets.iter().map(|sheet| wasteful(random, sheet)).collect();
+    let name = |kind| format!("{kind}, {agents} x {chores}");
+    let holds = |verdict| verdict == ListVerdict::Holds;
+    let is_unfair = |verdict| matches!(verdict, ListVerdict::Unfair(i, _) if i == agents);
+    let is_wasteful = |verdict| verdict == ListVerdict::Wasteful;
+    list_row(random, &name("list: holds"), &fair, holds);
+    list_row(random, &name("list: unfair"), &unfair, is_unfair);
+    list_row(random, &name("list: wasteful"), &wasteful, is_wasteful);
+    price_row(&name("prices: accepted"), &fair);
 }
 
 pub fn table(random: &mut Random) {
     println!(
-        "{:<39}{:>9}{:>9}{:>7}",
-        "check", "proved", "plain C", "ratio"
+        "{:<39}{:>9}{:>9}{:>7}{:>11}{:>7}",
+        "check", "proved", "plain C", "ratio", "reference", "ratio"
     );
-    for (agents, chores) in [(3, 200), (32, 200)] {
-        let sheets = sheets(random, halves, agents, chores);
-        let fair: Vec<Given> = sheets.iter().cloned().map(fair).collect();
-        let wasteful: Vec<Given> = sheets
-            .into_iter()
-            .map(|sheet| wasteful(random, sheet))
-            .collect();
-        let name = |kind| format!("{kind}, {agents} x {chores}");
-        list_row(random, &name("list: holds"), &fair, ListVerdict::Holds);
-        list_row(
-            random,
-            &name("list: wasteful"),
-            &wasteful,
-            ListVerdict::Wasteful,
-        );
-        price_row(&name("prices: accepted"), &fair);
+    for (agents, chores) in [(3, 200), (6, 60), (32, 200)] {
+        rows(random, agents, chores);
     }
 }
