@@ -15,10 +15,11 @@ use Rattle.finite.specs.Lists.{Table}
 use Rattle.finite.proofs.Below.{by-less}
 use Rattle.finite.proofs.Search.{first-cong, first-none, first-none-intro}
 use Rattle.finite.proofs.Where.{peak-within}
+use Rattle.finite.proofs.Extremes.{peak-stays}
 use Rattle.finite.proofs.Sweeps.{sums-bound}
 use Rattle.model.specs.Limits.{maxAgents, maxChores, maxWeight}
 use Rattle.model.specs.Instance.{cost, ownerOf}
-use Rattle.model.specs.Sheet.{choresOf, asMarked}
+use Rattle.model.specs.Sheet.{choresOf, difficultWeight, asMarked}
 use Rattle.model.specs.Fairness.{owns, total, costTo}
 use Rattle.model.specs.Verdicts.{envies}
 use Rattle.welfare.proofs.Evenness.{fair-test}
@@ -41,6 +42,12 @@ module _ {s owners : List ℕ} {n m : ℕ} (g : Given s owners n m) (i : ℕ) wh
       let v = g .valid in
       let few : c ≤ maxChores = omega (arith, g .chores, v .choresFit) in
       le-trans (sums-bound (ownerOf owners) (cost (asMarked s) i) h (λ d _. cost-at-most (asMarked s) i d (le-of-lt (v .easier))) j k) (mul-le-mul few (v .weightFits))
+
+  -- no chore costs more than the difficult weight: what was found is the costliest of all
+  pub most-found : {c most : ℕ} → c ≤ m → most ≡ maxWhere c (owns (ownerOf owners) i) (cost (asMarked s) i) → difficultWeight s ≤ most → most ≡ maxWhere m (owns (ownerOf owners) i) (cost (asMarked s) i)
+  unfolding asMarked
+  most-found l e b =
+      e ∙ peak-stays (owns (ownerOf owners) i) l (λ d _ _. omega (arith, e, cost-at-most (asMarked s) i d (le-of-lt (g .valid .easier))))
 
   module _ (below : i < n) {sums : List ℕ} (h : Table maxAgents (costTo (asMarked s) (ownerOf owners) i) sums) where
     module _ {off : ℕ} (taken : off ≡ maxWhere m (owns (ownerOf owners) i) (cost (asMarked s) i)) where

@@ -40,7 +40,8 @@ fn costliest(sheet: &[u8], owners: &[u8], m: usize, i: usize) -> u32
     let b = sheet::difficult_weight(sheet);
     let mut most = 0;
     let mut c = 0;
-    while c < m {
+    // No chore costs more than b.
+    while c < m && most < b {
         if given::owner(owners, c) == i {
             let cost = given::cost(sheet, m, a, b, i, c);
             if most < cost {
