@@ -9,7 +9,7 @@ use native.Mathlib.Omega.{arith}
 use lib.Dec.{ltb}
 use borrow.Author.Tests.{ltb-true, ltb-false, lt-ltb, le-ltb}
 use Rattle.finite.specs.Search.{anyBelow, allBelow, firstStep, firstBelow, Hit, Miss, First}
-use Rattle.finite.proofs.Tests.{by-cond, clash, bool-eq, fails-of, not-yes, and-elim, and-intro, and-cases, or-cases, or-left, or-right}
+use Rattle.finite.proofs.Tests.{by-test, by-cond, clash, bool-eq, fails-of, not-yes, and-elim, and-intro, and-cases, or-cases, or-left, or-right}
 use Rattle.finite.proofs.Below.{none-below, by-top, lower, by-less}
 
 -- anyBelow
@@ -21,6 +21,9 @@ any-zero t = refl
 pub any-next : (k : ℕ) (t : ℕ → Bool) → anyBelow (k + 1) t ≡ (anyBelow k t || t k)
 unfolding anyBelow
 any-next k t = ap (λ n. anyBelow n t) (add-one k)
+
+pub any-miss : (k : ℕ) (t : ℕ → Bool) → t k ≡ false → anyBelow (k + 1) t ≡ anyBelow k t
+any-miss k t e = rw (any-next k t, e) (by-test (anyBelow k t) (λ h. rw h) (λ h. rw h))
 
 pub any-intro : {n : ℕ} (t : ℕ → Bool) (i : ℕ) → i < n → t i ≡ true → anyBelow n t ≡ true
 unfolding anyBelow

@@ -3,7 +3,7 @@
 use Prim.Native.Nat.{ℕ}
 use mathlib.Core.Bool.{true, cond}
 use mathlib.Core.List.{List}
-use mathlib.Core.Path.{_≡_, sym, _∙_}
+use mathlib.Core.Path.{_≡_, sym}
 use native.Mathlib.Nat.{le-of-lt}
 use native.Mathlib.Omega.{arith}
 use lib.Dec.{eqb}
@@ -40,16 +40,13 @@ module _ {s : List ℕ} {m a b i c : ℕ} (k : Costed s m a b i c) where
         either = w .valid .marks i c (k .agent) (rw (← w .chores) (k .chore));
       }
 
-  pub cost-marked : cost (asMarked s) i c ≡ cond (eqb (markAt s i c) difficultMark) b a
-  unfolding cost asMarked marksEasy isDifficult
-  cost-marked = rw (k .weighed .easy, k .weighed .difficult) (cond-not (isDifficult s i c) (easyWeight s) (difficultWeight s))
-
   pub cost-read : {r : ℕ} → r ≡ cond (eqb (markAt s i c) difficultMark) b a → Cost (cost (asMarked s) i c) r
-  unfolding asMarked
-  cost-read e =
-      let v = k .weighed .valid in
+  unfolding cost asMarked marksEasy isDifficult
+  cost-read {r} e =
+      let w = k .weighed in
+      let v = w .valid in
       let le = le-of-lt (v .easier) in
-      let is = e ∙ sym cost-marked in
+      let is : r ≡ cost (asMarked s) i c = rw (e, w .easy, w .difficult) (sym (cond-not (isDifficult s i c) (easyWeight s) (difficultWeight s))) in
       record {
         is = is;
         positive = omega (arith, is, cost-at-least (asMarked s) i c le, v .easyPositive);

@@ -54,7 +54,7 @@ pub fn owner(owners: &[u8], c: usize) -> usize
 
 // What a mark costs. Document 02, request 3: "by arithmetic without a branch: a plus the product of (b − a) and (hexadecimal 65 less the
 // mark's byte), which is 0 for `e` and 1 for `d`".
-pub fn mark_cost(a: u32, b: u32, mark: u8) -> u32
+fn mark_cost(a: u32, b: u32, mark: u8) -> u32
     requires { ⌜ Marked a b mark ⌝ }
     ensures { λ r. ⌜ r ≡ cond (eqb mark difficultMark) b a ⌝ }
 {

@@ -71,8 +71,8 @@ fn ratio_at_most(
     left <= right
 }
 
-// The first chore from k on for which agent i's ratio is below that for chore d, m where there is none. Both weights are multiplied by d's
-// price before the search, so that in it a mark tells a chore's cross product.
+// The first chore from k on for which agent i's ratio is below that for chore d, m where there is none. In this search the ratio for d stays
+// the same, so that it is worked out once.
 fn first_lower(
     sheet: &[u8],
     prices: &[u32],
@@ -84,18 +84,13 @@ fn first_lower(
     k: usize,
 ) -> usize
     requires { ⌜ Rated (now sheet) (now prices) m a b ⌝ }
-    requires { ⌜ (i < agentsOf (now sheet)) × (d < m) ⌝ }
+    requires { ⌜ i < agentsOf (now sheet) ⌝ }
     requires { ⌜ LeastSoFar (now sheet) (now prices) m i d k ⌝ }
     ensures { λ r. ⌜ FirstLower (now (sheet .entry)) (now (prices .entry)) m i d k r ⌝ }
 {
-    let cost = given::cost(sheet, m, a, b, i, d);
-    let price = prices[d];
-    let easy = a * price;
-    let difficult = b * price;
     let mut c = k;
     while c < m {
-        let mark = sheet::mark_at(sheet, m, i, c);
-        if given::mark_cost(easy, difficult, mark) < cost * prices[c] {
+        if !ratio_at_most(sheet, prices, m, a, b, i, d, c) {
             return c;
         }
         c += 1;

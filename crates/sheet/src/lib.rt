@@ -96,19 +96,21 @@ fn is_mark(byte: u8) -> bool
     byte == EASY || byte == DIFFICULT
 }
 
-// Whether one of the `count` bytes after the header is no mark.
+// Whether one of the `count` bytes after the header is no mark. It reads them all: a sheet mostly has marks only, and without a way out of
+// the loop many are tested at once.
 fn marks_fault(sheet: &[u8], count: usize) -> bool
     requires { ⌜ headerSize + count ≤ length (now sheet) ⌝ }
     ensures { λ r. ⌜ r ≡ marksFault (now (sheet .entry)) count ⌝ }
 {
+    let mut fault = false;
     let mut k = 0;
     while k < count {
         if !is_mark(sheet[model::HEADER_SIZE + k]) {
-            return true;
+            fault = true;
         }
         k += 1;
     }
-    false
+    fault
 }
 
 // 0, or above the limit.

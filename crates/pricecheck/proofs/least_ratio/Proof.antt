@@ -27,7 +27,7 @@ add-first-lower c = search needs
 first-lower-requires : tie.Need-first-lower-requires Inv-loop μ-loop
 first-lower-requires c κs =
     let pre = c .before .before .before .before .pre in
-    (pre .0, ((pre .1, c .loop-test .taken), c .before .loop .inv .1 (c .loop-test .taken)))
+    (pre .0, (pre .1, c .before .loop .inv .1 (c .loop-test .taken)))
 
 loop-less : tie.Need-loop-less Inv-loop μ-loop
 loop-less c = omega (arith, c .first-lower .ensures .on, c .first-lower .ensures .before .passed)
