@@ -52,8 +52,8 @@ pub fn owner(owners: &[u8], c: usize) -> usize
     owners[c] as usize - 1
 }
 
-// What a mark costs. Document 02, request 3: "by arithmetic without a branch: a plus the product of (b − a) and (hexadecimal 65 less the
-// mark's byte), which is 0 for `e` and 1 for `d`".
+// What either mark costs. Document 02, request 3: "by arithmetic without a branch: a plus the product of (b − a) and (hexadecimal 65 less
+// the mark's byte), which is 0 for `e` and 1 for `d`".
 fn mark_cost(a: u32, b: u32, mark: u8) -> u32
     requires { ⌜ Marked a b mark ⌝ }
     ensures { λ r. ⌜ r ≡ cond (eqb mark difficultMark) b a ⌝ }
