@@ -72,7 +72,7 @@ module _ (I : Instance) (p : ℕ → ℕ) (i : ℕ) where
       bool-eq (λ e. all-elim (I .m) _ e r below)
       (λ e. all-intro (I .m) _ (λ d l. ratio-through c r d some e (all-elim (I .m) _ h d l)))
 
-pub rated-positive : {s prices : List ℕ} {m a b : ℕ} → Rated s prices m a b → (c : ℕ) → c < m → 0 < priceOf prices c
+rated-positive : {s prices : List ℕ} {m a b : ℕ} → Rated s prices m a b → (c : ℕ) → c < m → 0 < priceOf prices c
 unfolding priceOf
 rated-positive r = r .priced .positive
 
