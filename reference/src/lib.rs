@@ -1,6 +1,7 @@
 //! The second program: the share-out of easy and difficult chores, and the
 //! checks of allocations and prices, written plainly from the scope document,
-//! with the opening and a record of the moves by the requests that came later.
+//! with the opening, a record of the moves and the cost of a mark by the
+//! requests that came later.
 //!
 //! Where those documents say person, reel, list, even, best reel, price-one,
 //! ring and cut, the code says agent, chore, allocation (its bytes: owners),
