@@ -12,7 +12,7 @@ ghost use Rattle.sheet.specs.Readers.{Read, InSheet, RowInSheet};
 
 pub const EASY: u8 = b'e';
 
-pub const DIFFICULT: u8 = b'd';
+const DIFFICULT: u8 = b'd';
 
 pub fn byte_at(bytes: &[u8], i: usize) -> u32
     requires { ⌜ i < length (now bytes) ⌝ }
