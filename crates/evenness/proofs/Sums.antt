@@ -27,7 +27,7 @@ use Rattle.welfare.proofs.Costs.{cost-at-most}
 use Rattle.given.specs.Given.{Given}
 use Rattle.given.proofs.Given.{given-few}
 
--- what one agent's chores cost, and more than another's with some taken off
+-- what is taken off one side may be added to the other
 above-rest : (own other off : ℕ) → not (leb own (other + off)) ≡ ltb other (own - off)
 above-rest own other off =
     by-less (other + off) own

@@ -87,7 +87,7 @@ module _ {s prices : List ℕ} {m i l : ℕ} where
   lower-found {k = k} rated on h below told e =
       record {
         on = on;
-        before = h;
+        stays = h;
         found = λ _.
             record {
               chore = λ _. below;
@@ -98,7 +98,7 @@ module _ {s prices : List ℕ} {m i l : ℕ} where
 
   -- none has
   pub lower-none : {n k : ℕ} → n ≤ k → k ≡ m → LeastSoFar s prices m i l k → FirstLower s prices m i l n m
-  lower-none on e h = record { on = omega arith; before = rw e at h; found = λ f. absurd (omega arith) }
+  lower-none on e h = record { on = omega arith; stays = rw e at h; found = λ f. absurd (omega arith) }
 
 -- best chores for the agents one by one
 module _ {s prices : List ℕ} {m : ℕ} {least : List ℕ} where

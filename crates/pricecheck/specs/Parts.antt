@@ -41,7 +41,7 @@ pub record LeastSoFar (s prices : List ℕ) (m i l k : ℕ) : Type 0 where
 -- the search from chore k on for a lower ratio than that for l: it goes on to r, which has the least ratio so far if it is a chore
 pub record FirstLower (s prices : List ℕ) (m i l k r : ℕ) : Type 0 where
   pub on : k ≤ r
-  pub before : LeastSoFar s prices m i l r
+  pub stays : LeastSoFar s prices m i l r
   pub found : r < m → LeastSoFar s prices m i r (r + 1)
 
 -- r is a best chore of agent i

@@ -30,10 +30,10 @@ first-lower-requires c κs =
     (pre .0, (pre .1, c .before .loop .inv .1 (c .loop-test .taken)))
 
 loop-less : tie.Need-loop-less Inv-loop μ-loop
-loop-less c = omega (arith, c .first-lower .ensures .on, c .first-lower .ensures .before .passed)
+loop-less c = omega (arith, c .first-lower .ensures .on, c .first-lower .ensures .stays .passed)
 
 loop-again : tie.Need-loop-again Inv-loop μ-loop
-loop-again c = let told = c .first-lower .ensures in (told .before, told .found)
+loop-again c = let told = c .first-lower .ensures in (told .stays, told .found)
 
 returns : tie.Need-returns Inv-loop μ-loop
 unfolding asMarked
