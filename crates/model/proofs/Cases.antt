@@ -20,7 +20,7 @@ use Rattle.model.specs.Fairness.{dominates, isAllocation}
 use Rattle.model.specs.Algorithm.{Outcome, busy, done, lacking, after}
 use Rattle.model.specs.Record.{movesIn, recordOf}
 use Rattle.model.specs.Refusals.{sheetRefusal}
-use Rattle.model.specs.Cases.{Case, shared-out, judged, lent, recorded, lent-record, listed, shown, priced, Shares, Records, Meets, MeetsAll}
+use Rattle.model.specs.Cases.{Case, shared-out, judged, lent, recorded, lent-record, joins, lent-join, marked, asked, listed, shown, priced, Shares, Records, Meets, MeetsAll}
 use Rattle.model.proofs.Allocations.{allocation-picks}
 
 -- what an outcome shows of a run that has ended
@@ -53,6 +53,10 @@ Computed enough (judged s k) = Meets (judged s k)
 Computed enough (lent s owners prices scratch k) = Meets (lent s owners prices scratch k)
 Computed enough (recorded s bytes) = (sheetRefusal s ≡ 0) × (isDone (after (asRead s) enough) ≡ true) × (recordOf (movesIn (asRead s) enough) ≡ bytes)
 Computed enough (lent-record s owners prices scratch moves bytes k) = Meets (lent-record s owners prices scratch moves bytes k)
+Computed enough (joins first second whole) = Meets (joins first second whole)
+Computed enough (lent-join first second bytes k) = Meets (lent-join first second bytes k)
+Computed enough (marked first second person chore row) = Meets (marked first second person chore row)
+Computed enough (asked first second person chore k) = Meets (asked first second person chore k)
 Computed enough (listed s owners answer) = Meets (listed s owners answer)
 Computed enough (shown s owners other) =
     (isAllocation (asMarked s) other ≡ true)
@@ -102,6 +106,10 @@ met enough (judged s k) h = h
 met enough (lent s owners prices scratch k) h = h
 met enough (recorded s bytes) h = wrote s bytes enough (after (asRead s) enough) (h .0) refl (h .1) (h .2)
 met enough (lent-record s owners prices scratch moves bytes k) h = h
+met enough (joins first second whole) h = h
+met enough (lent-join first second bytes k) h = h
+met enough (marked first second person chore row) h = h
+met enough (asked first second person chore k) h = h
 met enough (listed s owners answer) h = h
 met enough (shown s owners other) h =
     record {

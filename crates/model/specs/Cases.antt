@@ -12,7 +12,8 @@ use Rattle.model.specs.Sheet.{asMarked, asRead}
 use Rattle.model.specs.Fairness.{dominates, isAllocation}
 use Rattle.model.specs.Algorithm.{State, Ends}
 use Rattle.model.specs.Record.{movesIn, recordOf}
-use Rattle.model.specs.Refusals.{sheetRefusal, allocateRefusal, recordedRefusal}
+use Rattle.model.specs.Strands.{joinedSheet, strandMarks}
+use Rattle.model.specs.Refusals.{sheetRefusal, allocateRefusal, recordedRefusal, strandsRefusal, joinRefusal, showRefusal}
 use Rattle.model.specs.Replies.{Reply}
 use Rattle.model.specs.Verdicts.{listCheck, priceCheck}
 
@@ -44,6 +45,14 @@ pub data Case : Type 0 where
   recorded : List ℕ → List ℕ → Case
   -- the refusal number of a share-out with a record, with lent owners, prices and scratch of so many entries, moves and bytes
   lent-record : List ℕ → ℕ → ℕ → ℕ → ℕ → ℕ → ℕ → Case
+  -- two sheets, and the one that they make
+  joins : List ℕ → List ℕ → List ℕ → Case
+  -- the refusal number of joining two sheets, with a lent list of so many bytes
+  lent-join : List ℕ → List ℕ → ℕ → ℕ → Case
+  -- of two sheets, the marks that are shown of a person for a chore
+  marked : List ℕ → List ℕ → ℕ → ℕ → List ℕ → Case
+  -- the refusal number of showing them
+  asked : List ℕ → List ℕ → ℕ → ℕ → ℕ → Case
   -- the list check's answer on a sheet and a list, with enough lent
   listed : List ℕ → List ℕ → Reply → Case
   -- on a sheet, a list, and the one list that dominates it
@@ -80,6 +89,10 @@ Meets (judged s k) = sheetRefusal s ≡ k
 Meets (lent s owners prices scratch k) = allocateRefusal s owners prices scratch ≡ k
 Meets (recorded s bytes) = Records s bytes
 Meets (lent-record s owners prices scratch moves bytes k) = recordedRefusal s owners prices scratch moves bytes ≡ k
+Meets (joins first second whole) = (strandsRefusal first second ≡ 0) × (joinedSheet first second ≡ whole)
+Meets (lent-join first second bytes k) = joinRefusal first second bytes ≡ k
+Meets (marked first second person chore row) = (showRefusal first second person chore ≡ 0) × (strandMarks first second person chore ≡ row)
+Meets (asked first second person chore k) = showRefusal first second person chore ≡ k
 Meets (listed s owners answer) = listCheck s owners (length owners) ≡ answer
 Meets (shown s owners other) = Shows s owners other
 Meets (priced s owners prices answer) = priceCheck s owners prices ≡ answer

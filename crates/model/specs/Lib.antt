@@ -1,6 +1,7 @@
 pub mod Limits
 pub mod Instance
 pub mod Sheet
+pub mod Strands
 pub mod Contents
 pub mod Fairness
 pub mod Prices

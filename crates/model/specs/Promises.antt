@@ -2,23 +2,25 @@
 -- the call returns. `sheet_refusal` promises `r ≡ sheetRefusal sheet`, and the price check, which lends nothing, `PricesChecked`.
 use Prim.Native.Nat.{ℕ, _≤_, _<_, _+_, _-_, _*_}
 use mathlib.Core.Bool.{true, false, cond}
-use mathlib.Core.List.{List, []}
+use mathlib.Core.List.{List, [], _++_}
 use mathlib.Core.Path.{_≡_}
 use lib.Dec.{eqb}
 use lib.ListN.{length, take, drop, replicate}
 use Rattle.model.specs.declared.ShareOut.{ShareOut}
+use Rattle.model.specs.declared.Join.{Join}
 use Rattle.model.specs.declared.ListVerdict.{ListVerdict}
 use Rattle.model.specs.declared.PriceVerdict.{PriceVerdict}
 use Rattle.model.specs.declared.BookResult.{BookResult}
 use Rattle.model.specs.Instance.{Instance, ownerOf}
 use Rattle.model.specs.Sheet.{agentsOf, choresOf, asMarked, asRead}
+use Rattle.model.specs.Strands.{joinedSheet, strandMarks, joinedMarks}
 use Rattle.model.specs.Contents.{sheetCount, sheetOf}
 use Rattle.model.specs.Fairness.{ef1, dominates, isAllocation}
 use Rattle.model.specs.Algorithm.{State, lacking, opening, after, Ends}
 use Rattle.model.specs.Record.{Move, movesIn, moveSize, recordOf, played, Hands, moveAt}
-use Rattle.model.specs.Refusals.{sheetRefusal, allocateRefusal, recordedRefusal, lookupRefusal, bookRefusal}
-use Rattle.model.specs.Replies.{Reply, refused, shared, absent, holds, wasteful, accepted, shareOutReply, listReply, priceReply, replyAt}
-use Rattle.model.specs.Verdicts.{listCheck, priceCheck}
+use Rattle.model.specs.Refusals.{sheetRefusal, allocateRefusal, recordedRefusal, joinRefusal, showRefusal, lookupRefusal, bookRefusal}
+use Rattle.model.specs.Replies.{Reply, refused, shared, joined, absent, holds, wasteful, accepted, shareOutReply, joinReply, listReply, priceReply, replyAt}
+use Rattle.model.specs.Verdicts.{unlessRefused, listCheck, priceCheck}
 use Rattle.model.specs.MostMoves.{roundMoves, mostMoves}
 use Rattle.model.specs.Book.{takesSheet, sheetAnswer, longList, tallyOf, mostInBook}
 
@@ -133,6 +135,32 @@ pub record PricesChecked (s owners prices : List ℕ) (r : PriceVerdict) : Type 
   pub answer : priceReply r ≡ priceCheck s owners prices
   -- "An accepted list also holds, whoever proposed the prices."
   pub holding : priceReply r ≡ accepted → (lent : ℕ) → choresOf s ≤ lent → listCheck s owners lent ≡ holds
+
+-- The lent list when two sheets were joined: "The joined sheet is written at the start of a lent list". The rest of it keeps its content, and
+-- with a refusal all of it does.
+unfoldable pub joinedOver : List ℕ → List ℕ → List ℕ → List ℕ
+joinedOver first second lent =
+    cond (eqb (joinRefusal first second (length lent)) 0)
+    (joinedSheet first second ++ drop (length (joinedSheet first second)) lent)
+    lent
+
+-- Two sheets joined: `join_sheets(first, second, joined)`.
+pub record SheetsJoined (first second lent lent′ : List ℕ) (r : Join) : Type 0 where
+  pub answer : joinReply r ≡ unlessRefused (joinRefusal first second (length lent)) (joined (length (joinedSheet first second)))
+  pub atExit : lent′ ≡ joinedOver first second lent
+  -- the joined sheet breaks no rule, so every call takes it
+  pub taken : joinRefusal first second (length lent) ≡ 0 → sheetRefusal (joinedSheet first second) ≡ 0
+
+-- The marks that are shown, and none where that is refused.
+unfoldable pub shownMarks : List ℕ → List ℕ → ℕ → ℕ → List ℕ
+shownMarks first second person chore = cond (eqb (showRefusal first second person chore) 0) (strandMarks first second person chore) []
+
+-- A person's marks out of the sheet that holds a chore: `show_marks(first, second, person, chore)`.
+pub record MarksShown (first second : List ℕ) (person chore refusal : ℕ) (marks : List ℕ) : Type 0 where
+  pub answer : refusal ≡ showRefusal first second person chore
+  pub part : marks ≡ shownMarks first second person chore
+  -- they are the joined sheet's marks of that person for that strand
+  pub onJoined : refusal ≡ 0 → marks ≡ joinedMarks first second person chore
 
 -- The part of the book that a lookup hands back: "its bytes are handed back as that stretch of the book", and no bytes where it is refused,
 -- since "the number is all that is returned".

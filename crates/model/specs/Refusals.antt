@@ -7,6 +7,7 @@ use lib.ListN.{length, getD}
 use Rattle.finite.specs.Search.{allBelow, anyBelow}
 use Rattle.model.specs.Limits.{maxAgents, maxChores, maxWeight, maxPrice, scratchSize, bookEntries}
 use Rattle.model.specs.Sheet.{agentsOf, choresOf, easyWeight, difficultWeight, headerSize, sheetLength, easyMark, difficultMark}
+use Rattle.model.specs.Strands.{agree, joinedChores, joinedSheet}
 use Rattle.model.specs.Contents.{sheetCount, bookFits}
 use Rattle.model.specs.Fairness.{ownersInRange}
 use Rattle.model.specs.Record.{moveSize}
@@ -110,6 +111,27 @@ priceRefusal s owners prices =
     sheetRefusal s
     orElse ownersRefusal (agentsOf s) (choresOf s) owners
     orElse pricesRefusal (choresOf s) prices
+
+-- two strands: "The second sheet is examined after the first, sheets whose people or weights differ are refused with 12, and a joined count
+-- above the limit is refused with 2 after that."
+unfoldable pub strandsRefusal : List ℕ → List ℕ → ℕ
+strandsRefusal first second =
+    sheetRefusal first
+    orElse sheetRefusal second
+    orElse 12 when not (agree first second)
+    orElse 2 when ltb maxChores (joinedChores first second)
+
+-- joining them, with the length of the lent list, "which is refused with 8 last if it is too short"
+unfoldable pub joinRefusal : List ℕ → List ℕ → ℕ → ℕ
+joinRefusal first second lent =
+    strandsRefusal first second
+    orElse lentRefusal (length (joinedSheet first second)) lent
+
+-- "Showing marks for a person or reel that isn't there is refused with 9, after 2."
+unfoldable pub showRefusal : List ℕ → List ℕ → ℕ → ℕ → ℕ
+showRefusal first second person chore =
+    strandsRefusal first second
+    orElse 9 when (outOfRange (agentsOf first) person || outOfRange (joinedChores first second) chore)
 
 -- 9: "a book of no bytes or over 65,535, k out of range, or contents against the book's rule"
 unfoldable pub contentsRefusal : List ℕ → ℕ

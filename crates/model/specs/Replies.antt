@@ -3,6 +3,7 @@ use Prim.Native.Nat.{ℕ}
 use mathlib.Core.List.{List}
 use lib.ListN.{getD}
 use Rattle.model.specs.declared.ShareOut.{ShareOut}
+use Rattle.model.specs.declared.Join.{Join}
 use Rattle.model.specs.declared.ListVerdict.{ListVerdict}
 use Rattle.model.specs.declared.PriceVerdict.{PriceVerdict}
 use Rattle.model.specs.declared.SheetResult.{SheetResult}
@@ -15,6 +16,8 @@ pub data Reply : Type 0 where
   shared : ℕ → ℕ → Reply
   -- a sheet of a book: moves, cuts, first entry
   sharedAt : ℕ → ℕ → ℕ → Reply
+  -- joined: the length of the joined sheet
+  joined : ℕ → Reply
   -- the book has no such sheet: nothing is told
   absent : Reply
   -- `holds`
@@ -33,6 +36,10 @@ pub data Reply : Type 0 where
 abbrev pub shareOutReply : ShareOut → Reply
 shareOutReply (ShareOut.Refused k) = refused k
 shareOutReply (ShareOut.Shared moves cuts) = shared moves cuts
+
+abbrev pub joinReply : Join → Reply
+joinReply (Join.Refused k) = refused k
+joinReply (Join.Joined size) = joined size
 
 abbrev pub listReply : ListVerdict → Reply
 listReply (ListVerdict.Refused k) = refused k

@@ -3,7 +3,7 @@ use Prim.Native.Nat.{ℕ, _+_, _*_}
 use mathlib.Core.Bool.{Bool, not, _||_}
 use mathlib.Core.List.{List}
 use lib.Dec.{eqb}
-use lib.ListN.{getD}
+use lib.ListN.{getD, take, drop}
 use Rattle.finite.specs.Search.{allBelow}
 use Rattle.finite.specs.Lists.{wordAt}
 use Rattle.model.specs.Instance.{Instance}
@@ -28,9 +28,15 @@ difficultWeight s = wordAt s 4
 abbrev pub headerSize : ℕ
 headerSize = 6
 
--- "Then n rows of m marks, person by person"
+-- "Then n rows of m marks, person by person": where agent i's row starts, its marks, and the one for chore c
+abbrev pub rowStart : List ℕ → ℕ → ℕ
+rowStart s i = headerSize + i * choresOf s
+
+unfoldable pub rowOf : List ℕ → ℕ → List ℕ
+rowOf s i = take (choresOf s) (drop (rowStart s i) s)
+
 unfoldable pub markAt : List ℕ → ℕ → ℕ → ℕ
-markAt s i c = getD s (headerSize + i * choresOf s + c) 0
+markAt s i c = getD s (rowStart s i + c) 0
 
 -- "`e` (hexadecimal 65)"
 abbrev pub easyMark : ℕ

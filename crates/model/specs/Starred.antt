@@ -4,8 +4,9 @@ use Prim.Native.Nat.{ℕ}
 use mathlib.Core.List.{List, [], _∷_}
 use lib.ListN.{replicate}
 use Rattle.model.specs.Sheet.{easyMark}
+use Rattle.model.specs.Strands.{joinedSheet}
 use Rattle.model.specs.Replies.{holds, unfair, wasteful, offPrice, accepted}
-use Rattle.model.specs.Cases.{sheet, Case, shared-out, judged, lent, recorded, lent-record, listed, shown, priced}
+use Rattle.model.specs.Cases.{sheet, marks, Case, shared-out, judged, lent, recorded, lent-record, joins, lent-join, marked, asked, listed, shown, priced}
 
 unfoldable pub sheetC : List ℕ
 sheetC = sheet 1 3 ("eeeee" ∷ "dddde" ∷ [])
@@ -19,6 +20,17 @@ sheetE = sheet 1 2 ("ed" ∷ "de" ∷ [])
 -- a sheet with a move in 2a
 unfoldable pub sheet2a : List ℕ
 sheet2a = sheet 1 3 ("deddddddd" ∷ "ddddddddd" ∷ "ddeddddde" ∷ [])
+
+-- two strands: agent 1's row is all difficult in the first, and not on the sheet that they make
+unfoldable pub strand1 : List ℕ
+strand1 = sheet 1 3 ("dd" ∷ "ed" ∷ [])
+
+unfoldable pub strand2 : List ℕ
+strand2 = sheet 1 3 ("ede" ∷ "dee" ∷ [])
+
+-- two chores that both agents find easy
+unfoldable pub twoEasy : List ℕ
+twoEasy = sheet 1 2 ("ee" ∷ "ee" ∷ [])
 
 -- n agents and one chore, easy for each; one agent and m chores, easy for it
 unfoldable pub agents : ℕ → List ℕ
@@ -86,4 +98,38 @@ table =
     ∷ lent-record sheetC 5 5 1024 3 18 0
     ∷ lent-record sheetC 5 5 1024 3 17 11
     ∷ lent-record sheetC 5 5 1023 3 17 8
+    -- document 02, request 4: two strands, of 2 and 3 chores; a strand of no chores
+    ∷ joins strand1 strand2 (sheet 1 3 ("ddede" ∷ "eddee" ∷ []))
+    ∷ joins (sheet 1 3 ("" ∷ "" ∷ [])) strand2 strand2
+    -- "Rows of difficult marks only are judged on the joined sheet.": on the first alone agent 1's row is read as easy
+    ∷ shared-out strand1 (2 ∷ 1 ∷ []) (3 ∷ 3 ∷ []) 1 0
+    ∷ shared-out (joinedSheet strand1 strand2) (2 ∷ 1 ∷ 1 ∷ 2 ∷ 1 ∷ []) (3 ∷ 9 ∷ 3 ∷ 3 ∷ 3 ∷ []) 0 0
+    -- "Evenness isn't claimed for the parts.": the whole list is even, its first part is not
+    ∷ listed (joinedSheet twoEasy twoEasy) (1 ∷ 1 ∷ 2 ∷ 2 ∷ []) holds
+    ∷ listed twoEasy (1 ∷ 1 ∷ []) (unfair 1 2)
+    -- a list of 16 bytes and of 15; 200 chores and 201
+    ∷ lent-join strand1 strand2 16 0
+    ∷ lent-join strand1 strand2 15 8
+    ∷ lent-join (chores 100) (chores 100) 206 0
+    ∷ lent-join (chores 200) (chores 1) 207 2
+    -- people, the easy weight, the difficult weight differ
+    ∷ lent-join (agents 2) (agents 3) 10 12
+    ∷ lent-join twoEasy (sheet 2 3 ("e" ∷ "e" ∷ [])) 12 12
+    ∷ lent-join twoEasy (sheet 1 3 ("e" ∷ "e" ∷ [])) 12 12
+    -- several at once: the first sheet's own number, the second's own, 12, 2, 8
+    ∷ lent-join tooMany [] 0 1
+    ∷ lent-join (agents 2) tooMany 0 1
+    ∷ lent-join (chores 200) (agents 2) 0 12
+    ∷ lent-join (chores 200) (chores 1) 0 2
+    -- the chores on both sides of the seam, and the first and last
+    ∷ marked strand1 strand2 1 1 (marks "dd")
+    ∷ marked strand1 strand2 2 2 (marks "ed")
+    ∷ marked strand1 strand2 1 3 (marks "ede")
+    ∷ marked strand1 strand2 2 5 (marks "dee")
+    -- a person or chore that isn't there; 2 comes before 9
+    ∷ asked strand1 strand2 0 1 9
+    ∷ asked strand1 strand2 3 1 9
+    ∷ asked strand1 strand2 1 0 9
+    ∷ asked strand1 strand2 1 6 9
+    ∷ asked (chores 200) (chores 1) 2 1 2
     ∷ []

@@ -6,6 +6,12 @@ pub enum ShareOut {
     Shared { moves: u64, cuts: u8 },
 }
 
+// Two sheets joined: the size of the joined sheet.
+pub enum Join {
+    Refused(u8),
+    Joined { size: usize },
+}
+
 // The list check. With `Wasteful` a dominating list is in the lent list.
 pub enum ListVerdict {
     Refused(u8),
@@ -38,6 +44,12 @@ pub struct SheetEntry {
 pub struct Found<'a> {
     pub refusal: u8,
     pub sheet: &'a [u8],
+}
+
+// What is shown of two strands: a refusal number, or 0 and an agent's row as a part of one of the two sheets lent.
+pub struct Shown<'a> {
+    pub refusal: u8,
+    pub marks: &'a [u8],
 }
 
 // The running tally of moves and cuts.

@@ -1,3 +1,4 @@
 pub mod Waste
 pub mod Walk
 pub mod Reading
+pub mod Strands
