@@ -8,7 +8,7 @@ use native.Mathlib.Nat.{le-refl, le-of-eq}
 use native.Mathlib.Numerals.{add-one}
 use native.Mathlib.Omega.{arith}
 use lib.ListN.{length, getD, take, drop, set, replicate, length-append, length-drop, length-replicate, getD-replicate, take-append-drop, drop-of-length-le, List·getD-append}
-use lib.Seq.{ext-getD, sets, sets-eq, take-at, drop-drop, drop-append-add, take-suc, drop-cons, set-at, append-snoc, take-suc-set, take-all, getD-take, getD-at, length-take-le}
+use lib.Seq.{ext-getD, sets, sets-eq, take-at, drop-drop, drop-append-add, take-suc, drop-cons, set-at, append-snoc, take-suc-set, take-all, getD-take, getD-drop, getD-at, length-take-le}
 use Rattle.finite.specs.Lists.{tabulate, Picks, someList}
 use Rattle.finite.proofs.Tests.{clash, bool-eq, fails-of, not-yes}
 use Rattle.finite.proofs.Below.{none-below, by-top, lower}
@@ -94,6 +94,11 @@ module _ (xs ys ws : List ℕ) (a m : ℕ) (size : length ws ≡ m) (room : a + 
       let fits : a + length ws ≤ length xs = rw size room in
       rw (gone, append-nil, made, sets-eq ws xs a fits, size) (sym (append-assoc (take a xs) ws (drop (a + m) xs)))
 
+-- stores one after the other
+pub sets-append : (xs ys l : List ℕ) (i : ℕ) → sets (sets l i xs) (i + length xs) ys ≡ sets l i (xs ++ ys)
+sets-append [] ys l i = ap (λ k. sets l k ys) (omega arith)
+sets-append (x ∷ xs) ys l i = ap (λ k. sets (sets (set l i x) (suc i) xs) k ys) (omega arith) ∙ sets-append xs ys (set l i x) (suc i)
+
 -- ws written where a list goes on with the rest of another
 pub stretch-on : (done ws lent : List ℕ) (f e : ℕ) → length done ≡ f → length ws ≡ e → f + e ≤ length lent → sets (done ++ drop f lent) f ws ≡ (done ++ ws) ++ drop (f + e) lent
 stretch-on done ws lent f e long size room =
@@ -133,6 +138,24 @@ picks-tail p =
       size = omega (arith, p .size);
       positive = λ c l. p .positive (suc c) (omega arith);
       bounded = λ c l. p .bounded (suc c) (omega arith);
+    }
+
+-- a list cut in two
+
+pub picks-take : {n k : ℕ} {y : List ℕ} (m : ℕ) → m ≤ k → Picks n k y → Picks n m (take m y)
+picks-take {n} {k} {y} m h p =
+    record {
+      size = length-take-le m y (rw (p .size) h);
+      positive = λ c l. rw (getD-take m y c 0 l) (p .positive c (omega arith));
+      bounded = λ c l. rw (getD-take m y c 0 l) (p .bounded c (omega arith));
+    }
+
+pub picks-drop : {n k l : ℕ} {y : List ℕ} (m : ℕ) → k ≡ m + l → Picks n k y → Picks n l (drop m y)
+picks-drop {n} {k} {l} {y} m e p =
+    record {
+      size = simp length-drop (omega (arith, p .size));
+      positive = λ c h. rw (getD-drop m y c 0) (p .positive (m + c) (omega arith));
+      bounded = λ c h. rw (getD-drop m y c 0) (p .bounded (m + c) (omega arith));
     }
 
 pub list-elim : (n m : ℕ) (t : List ℕ → Bool) → someList n m t ≡ true → SomePicks n m t

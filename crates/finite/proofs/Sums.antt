@@ -100,7 +100,8 @@ unfolding sumTo
 sum-swap zero m f = sym (sum-none m (λ c l. refl))
 sum-swap (suc k) m f = rw (sum-swap k m f) (sym (sum-add m (λ c. sumTo k (λ i. f i c)) (f k)))
 
-sum-split : (n m : ℕ) (f : ℕ → ℕ) → sumTo (n + m) f ≡ sumTo n f + sumTo m (λ c. f (n + c))
+-- cut in two at n
+pub sum-split : (n m : ℕ) (f : ℕ → ℕ) → sumTo (n + m) f ≡ sumTo n f + sumTo m (λ c. f (n + c))
 unfolding sumTo
 sum-split n zero f = rw (add-zero n) (omega arith)
 sum-split n (suc k) f = rw add-suc (omega (arith, sum-split n k f))

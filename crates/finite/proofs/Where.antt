@@ -9,7 +9,7 @@ use lib.Dec.{eqb}
 use borrow.Author.Tests.{ne-eqb}
 use Rattle.finite.specs.Sums.{sumTo, sumWhere, maxWhere}
 use Rattle.finite.proofs.Tests.{by-test, clash, cond-true, cond-false, cond-cong, cond-mono, cond-scale, cond-same, and-no-right, not-on, not-off, eqb-same}
-use Rattle.finite.proofs.Sums.{sum-next, sum-cong, sum-mono, sum-strict, sum-add, sum-scale, sum-none, sum-change, sum-single, sum-point, sum-less}
+use Rattle.finite.proofs.Sums.{sum-next, sum-cong, sum-mono, sum-strict, sum-add, sum-scale, sum-none, sum-change, sum-single, sum-point, sum-less, sum-split}
 use Rattle.finite.proofs.Extremes.{peak-at-most}
 
 pub where-zero : (t : ℕ → Bool) (f : ℕ → ℕ) → sumWhere 0 t f ≡ 0
@@ -109,6 +109,11 @@ where-split n t u f =
 -- those that pass and those that fail
 pub where-not : (n : ℕ) (t : ℕ → Bool) (f : ℕ → ℕ) → sumTo n f ≡ sumWhere n t f + sumWhere n (λ c. not (t c)) f
 where-not n t f = sym (where-all n (λ c. true) f (λ c l. refl)) ∙ where-split n (λ c. true) t f
+
+-- cut in two at n
+pub where-cut : (n m : ℕ) (t : ℕ → Bool) (f : ℕ → ℕ) → sumWhere (n + m) t f ≡ sumWhere n t f + sumWhere m (λ c. t (n + c)) (λ c. f (n + c))
+unfolding sumWhere
+where-cut n m t f = sum-split n m (λ c. cond (t c) (f c) 0)
 
 -- tests that differ at one point
 pub where-change : {n : ℕ} (t u : ℕ → Bool) (f : ℕ → ℕ) (k : ℕ) → k < n → t k ≡ false → u k ≡ true → ((c : ℕ) → c < n → (c ≡ k → ⊥) → t c ≡ u c) → sumWhere n u f ≡ sumWhere n t f + f k

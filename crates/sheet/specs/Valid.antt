@@ -6,6 +6,7 @@ use mathlib.Core.Path.{_≡_}
 use lib.ListN.{length}
 use Rattle.model.specs.Limits.{maxAgents, maxChores, maxWeight}
 use Rattle.model.specs.Sheet.{headerSize, agentsOf, choresOf, easyWeight, difficultWeight, sheetLength, markAt}
+use Rattle.model.specs.Strands.{joinedChores}
 use Rattle.model.specs.Refusals.{isMark}
 
 pub record Valid (s : List ℕ) : Type 0 where
@@ -19,3 +20,12 @@ pub record Valid (s : List ℕ) : Type 0 where
   pub weightFits : difficultWeight s ≤ maxWeight
   pub long : length s ≡ sheetLength s
   pub marks : (i c : ℕ) → i < agentsOf s → c < choresOf s → isMark (markAt s i c) ≡ true
+
+-- What "refusal 0" of two strands means: the law `joinable` says so.
+pub record Joinable (first second : List ℕ) : Type 0 where
+  pub validFirst : Valid first
+  pub validSecond : Valid second
+  pub agents : agentsOf first ≡ agentsOf second
+  pub easy : easyWeight first ≡ easyWeight second
+  pub difficult : difficultWeight first ≡ difficultWeight second
+  pub fits : joinedChores first second ≤ maxChores

@@ -1,12 +1,12 @@
 // Reading a sheet: its header, its marks, and the number that it is turned down with. Agents and chores are counted from 0.
 
 ghost use mathlib.Core.Path.{_≡_};
-ghost use Prim.Native.Nat.{_+_, _≤_, _<_};
+ghost use Prim.Native.Nat.{_+_, _*_, _^_, _≤_, _<_};
 ghost use mathlib.Core.Bool.{not};
 ghost use lib.Dec.{eqb};
 ghost use lib.ListN.{length, getD};
 ghost use Rattle.finite.specs.Lists.{wordAt};
-ghost use Rattle.model.specs.Sheet.{headerSize, agentsOf, choresOf, easyWeight, difficultWeight, markAt, marksEasy, allDifficult};
+ghost use Rattle.model.specs.Sheet.{headerSize, agentsOf, choresOf, easyWeight, difficultWeight, rowOf, markAt, marksEasy, allDifficult};
 ghost use Rattle.model.specs.Refusals.{_orElse_, _when_, outOfRange, weightsFault, isMark, marksFault, headerRefusal, sheetRefusal, lentRefusal};
 ghost use Rattle.sheet.specs.Readers.{Read, InSheet, RowInSheet};
 
@@ -59,13 +59,31 @@ pub fn difficult_weight(sheet: &[u8]) -> u32
     word_at(sheet, 4)
 }
 
+// Where agent i's row starts, with m chores.
+pub fn row_start(m: usize, i: usize) -> usize
+    requires { ⌜ headerSize + i * m < 2 ^ 64 ⌝ }
+    ensures { λ r. ⌜ r ≡ headerSize + i * m ⌝ }
+{
+    model::HEADER_SIZE + i * m
+}
+
+// Agent i's marks, as a part of the sheet.
+pub fn row(sheet: &[u8], m: usize, i: usize) -> &[u8]
+    requires { ⌜ RowInSheet (now sheet) m i ⌝ }
+    ensures { λ r. ⌜ now r ≡ rowOf (now (sheet .entry)) i ⌝ }
+{
+    let start = row_start(m, i);
+    let end = start + m;
+    &sheet[start..end]
+}
+
 // Whoever asks for a mark asks here, so that where it lies is known to nobody else. The caller passes the number of chores, since a
 // search asks for many marks of one sheet.
 pub fn mark_at(sheet: &[u8], m: usize, i: usize, c: usize) -> u8
     requires { ⌜ InSheet (now sheet) m i c ⌝ }
     ensures { λ r. ⌜ r ≡ markAt (now (sheet .entry)) i c ⌝ }
 {
-    sheet[model::HEADER_SIZE + i * m + c]
+    sheet[row_start(m, i) + c]
 }
 
 pub fn marks_easy(sheet: &[u8], m: usize, i: usize, c: usize) -> bool

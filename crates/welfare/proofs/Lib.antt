@@ -12,3 +12,4 @@ pub mod Moves
 pub mod Walk
 pub mod Waste
 pub mod Reading
+pub mod Strands

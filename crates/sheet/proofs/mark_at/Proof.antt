@@ -5,22 +5,18 @@ use Rattle.sheet.proofs.Marks.{inside}
 use Rattle.sheet.proofs.mark_at.Statement.{statement}
 use Rattle.sheet.proofs.mark_at.Tie as tie
 
-mul-result : tie.Need-mul-result
-mul-result c = let l = inside (c .pre) in omega arith
+row-start-requires : tie.Need-row-start-requires
+row-start-requires c κs = let l = inside (c .before .pre) in omega arith
 
 add-result : tie.Need-add-result
-add-result c = let l = inside (c .pre) in omega arith
-
-add-result-2 : tie.Need-add-result-2
-add-result-2 c = let l = inside (c .pre) in omega arith
+add-result c = let l = inside (c .before .before .pre) in omega (arith, c .row-start .ensures)
 
 shared-slice-read-result : tie.Need-shared-slice-read-result
-shared-slice-read-result c = inside (c .before .pre)
+shared-slice-read-result c = let l = inside (c .before .before .before .pre) in omega (arith, c .before .row-start .ensures)
 
 returns : tie.Need-returns
 unfolding markAt
-returns c = rw (c .before .pre .chores)
+returns c = rw (c .before .row-start .ensures, c .before .before .before .pre .chores)
 
 pub mark-at-spec : {M : Type 1} → statement M
-mark-at-spec =
-    tie.close (tie.spec mul-result add-result add-result-2 shared-slice-read-result returns)
+mark-at-spec = tie.close (tie.spec row-start-requires add-result shared-slice-read-result returns)

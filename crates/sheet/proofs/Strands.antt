@@ -1,0 +1,194 @@
+-- Two strands that can be joined, and the sheet that they make: its header is the first's but for the count, each row is the first's and then
+-- the second's, and it breaks no rule.
+-- Assumes nothing.
+use Prim.Native.Nat.{ℕ, zero, suc, _+_, _*_, _-_, _≤_, _<_}
+use mathlib.Core.Bool.{Bool, true}
+use mathlib.Core.List.{List, [], _∷_, _++_, append-assoc, append-nil}
+use mathlib.Core.Path.{_≡_, refl, sym, ap, ap₂, _∙_}
+use native.Mathlib.Nat.{le-refl}
+use native.Mathlib.Omega.{arith}
+use lib.Arith.{digits-lt}
+use lib.Dec.{eqb}
+use lib.ListN.{length, getD, take, drop, length-append, length-drop, List·getD-append}
+use lib.Seq.{length-take-le, take-at, drop-at, getD-take, getD-drop, getD-append-add}
+use borrow.Author.Tests.{eqb-true, ltb-false, not-false}
+use Rattle.finite.specs.Lists.{wordAt}
+use Rattle.finite.proofs.Tests.{and-elim}
+use Rattle.finite.proofs.Below.{none-below, by-top, by-less}
+use Rattle.model.specs.Limits.{maxChores}
+use Rattle.model.specs.Sheet.{headerSize, agentsOf, choresOf, easyWeight, difficultWeight, rowStart, rowOf, markAt, sheetLength}
+use Rattle.model.specs.Strands.{agree, joinedChores, joinedRow, joinedRows, joinedHeader, joinedSheet}
+use Rattle.model.specs.Refusals.{isMark, sheetRefusal, strandsRefusal}
+use Rattle.sheet.specs.Valid.{Valid, Joinable}
+use Rattle.sheet.specs.Readers.{RowInSheet}
+use Rattle.sheet.proofs.OrElse.{or-else-zero, when-none, peel}
+use Rattle.sheet.proofs.Refusal.{valid, accepted}
+use Rattle.sheet.proofs.Marks.{row-long, mark-in-row}
+
+-- what refusal 0 of two strands means
+
+pub joinable : (first second : List ℕ) → strandsRefusal first second ≡ 0 → Joinable first second
+unfolding strandsRefusal agree
+joinable first second e =
+    let one = or-else-zero (sheetRefusal first) _ e in
+    let two = or-else-zero (sheetRefusal second) _ (one .1) in
+    let same = peel _ 11 _ (two .1) in
+    let agents = and-elim (eqb (agentsOf first) (agentsOf second)) _ (not-false _ (same .0)) in
+    let weights = and-elim (eqb (easyWeight first) (easyWeight second)) _ (agents .1) in
+    record {
+      validFirst = valid first (one .0);
+      validSecond = valid second (two .0);
+      agents = eqb-true _ _ (agents .0);
+      easy = eqb-true _ _ (weights .0);
+      difficult = eqb-true _ _ (weights .1);
+      fits = ltb-false maxChores (joinedChores first second) (when-none _ 1 (same .1));
+    }
+
+-- where a row stands among others
+record Among (first second : List ℕ) (k i : ℕ) : Type 0 where
+  rest : List ℕ
+  whole : joinedRows first second k ≡ joinedRows first second i ++ (joinedRow first second i ++ rest)
+
+among : (first second : List ℕ) (k i : ℕ) → i < k → Among first second k i
+unfolding joinedRows
+among first second zero i l = none-below l
+among first second (suc k) i l =
+    by-top l
+    (λ e. record { rest = []; whole = rw (e, append-nil) })
+    (λ l′.
+    let a = among first second k i l′ in
+    record {
+      rest = a .rest ++ joinedRow first second k;
+      whole = rw (a .whole, append-assoc, append-assoc);
+    })
+
+module _ {first second : List ℕ} (J : Joinable first second) where
+  row₁ : (i : ℕ) → i < agentsOf first → RowInSheet first (choresOf first) i
+  row₁ i l = record { long = J .validFirst .long; chores = refl; agent = l }
+
+  row₂ : (i : ℕ) → i < agentsOf first → RowInSheet second (choresOf second) i
+  row₂ i l = record { long = J .validSecond .long; chores = refl; agent = omega (arith, J .agents) }
+
+  -- the lengths of its parts, and its own
+
+  weights-long : length (take 4 (drop 2 first)) ≡ 4
+  weights-long = length-take-le 4 (drop 2 first) (simp length-drop (omega (arith, J .validFirst .header)))
+
+  pub header-long : length (joinedHeader first second) ≡ headerSize
+  unfolding joinedHeader
+  header-long = omega (arith, weights-long)
+
+  joined-row-long : (i : ℕ) → i < agentsOf first → length (joinedRow first second i) ≡ joinedChores first second
+  unfolding joinedRow joinedChores
+  joined-row-long i l = length-append (rowOf first i) (rowOf second i) ∙ ap₂ _+_ (row-long (row₁ i l)) (row-long (row₂ i l))
+
+  pub rows-long : (k : ℕ) → k ≤ agentsOf first → length (joinedRows first second k) ≡ k * joinedChores first second
+  unfolding joinedRows
+  rows-long zero l = omega arith
+  rows-long (suc k) l =
+      length-append (joinedRows first second k) (joinedRow first second k)
+      ∙ omega (arith, rows-long k (omega arith), joined-row-long k l)
+
+  pub joined-long : length (joinedSheet first second) ≡ headerSize + agentsOf first * joinedChores first second
+  unfolding joinedSheet
+  joined-long =
+      length-append (joinedHeader first second) (joinedRows first second (agentsOf first))
+      ∙ ap₂ _+_ header-long (rows-long (agentsOf first) (le-refl _))
+
+  -- its header
+
+  pub joined-agents : agentsOf (joinedSheet first second) ≡ agentsOf first
+  unfolding agentsOf joinedSheet joinedHeader
+  joined-agents = refl
+
+  pub joined-chores : choresOf (joinedSheet first second) ≡ joinedChores first second
+  unfolding choresOf joinedSheet joinedHeader
+  joined-chores = refl
+
+  weight-byte : (k : ℕ) → k < 4 → getD (joinedSheet first second) (suc (suc k)) 0 ≡ getD first (suc (suc k)) 0
+  unfolding joinedSheet joinedHeader
+  weight-byte k l =
+      List·getD-append (take 4 (drop 2 first)) (joinedRows first second (agentsOf first)) 0 k (rw weights-long l)
+      ∙ getD-take 4 (drop 2 first) k 0 l
+      ∙ getD-drop 2 first k 0
+      ∙ ap (λ at. getD first at 0) (omega arith)
+
+  pub joined-easy : easyWeight (joinedSheet first second) ≡ easyWeight first
+  unfolding easyWeight wordAt
+  joined-easy = ap₂ (λ high low. 256 * high + low) (weight-byte 0 (omega arith)) (weight-byte 1 (omega arith))
+
+  pub joined-difficult : difficultWeight (joinedSheet first second) ≡ difficultWeight first
+  unfolding difficultWeight wordAt
+  joined-difficult = ap₂ (λ high low. 256 * high + low) (weight-byte 2 (omega arith)) (weight-byte 3 (omega arith))
+
+  -- its rows
+
+  pub joined-row : (i : ℕ) → i < agentsOf first → rowOf (joinedSheet first second) i ≡ joinedRow first second i
+  unfolding rowOf joinedSheet
+  joined-row i l =
+      let a = among first second (agentsOf first) i l in
+      let head = joinedHeader first second ++ joinedRows first second i in
+      let row = joinedRow first second i in
+      let before : length head ≡ rowStart (joinedSheet first second) i =
+      length-append (joinedHeader first second) (joinedRows first second i)
+      ∙ ap₂ _+_ header-long (rows-long i (omega arith))
+      ∙ ap (λ m. headerSize + i * m) (sym joined-chores) in
+      let spelled : joinedSheet first second ≡ head ++ (row ++ a .rest) =
+      ap (λ rows. joinedHeader first second ++ rows) (a .whole)
+      ∙ sym (append-assoc (joinedHeader first second) (joinedRows first second i) (row ++ a .rest)) in
+      ap (λ s. take (choresOf (joinedSheet first second)) (drop (rowStart (joinedSheet first second) i) s)) spelled
+      ∙ ap (take (choresOf (joinedSheet first second))) (drop-at head (row ++ a .rest) _ before)
+      ∙ take-at row (a .rest) _ (joined-row-long i l ∙ sym joined-chores)
+
+  -- its marks: the first's, and after them the second's
+
+  pub mark-first : (i c : ℕ) → i < agentsOf first → c < choresOf first → markAt (joinedSheet first second) i c ≡ markAt first i c
+  unfolding joinedRow joinedChores
+  mark-first i c l k =
+      mark-in-row (joinedSheet first second) i c (omega (arith, joined-chores))
+      ∙ ap (λ row. getD row c 0) (joined-row i l)
+      ∙ List·getD-append (rowOf first i) (rowOf second i) 0 c (rw (row-long (row₁ i l)) k)
+      ∙ sym (mark-in-row first i c k)
+
+  pub mark-second : (i c : ℕ) → i < agentsOf first → c < choresOf second → markAt (joinedSheet first second) i (choresOf first + c) ≡ markAt second i c
+  unfolding joinedRow joinedChores
+  mark-second i c l k =
+      mark-in-row (joinedSheet first second) i (choresOf first + c) (omega (arith, joined-chores))
+      ∙ ap (λ row. getD row (choresOf first + c) 0) (joined-row i l)
+      ∙ ap (λ m. getD (rowOf first i ++ rowOf second i) (m + c) 0) (sym (row-long (row₁ i l)))
+      ∙ getD-append-add (rowOf first i) (rowOf second i) c 0
+      ∙ sym (mark-in-row second i c k)
+
+  -- it breaks no rule
+
+  joined-mark : (i c : ℕ) → i < agentsOf first → c < joinedChores first second → isMark (markAt (joinedSheet first second) i c) ≡ true
+  unfolding joinedChores
+  joined-mark i c l k =
+      by-less c (choresOf first)
+      (λ h. ap isMark (mark-first i c l h) ∙ J .validFirst .marks i c l h)
+      (λ h.
+      let d = c - choresOf first in
+      let here : choresOf first + d ≡ c = omega arith in
+      let inside : d < choresOf second = omega arith in
+      ap (λ c. isMark (markAt (joinedSheet first second) i c)) (sym here)
+      ∙ ap isMark (mark-second i d l inside)
+      ∙ J .validSecond .marks i d (omega (arith, J .agents)) inside)
+
+  pub joined-valid : Valid (joinedSheet first second)
+  unfolding sheetLength
+  joined-valid =
+      let v = J .validFirst in
+      record {
+        header = omega (arith, joined-long);
+        someAgent = omega (arith, joined-agents, v .someAgent);
+        agentsFit = omega (arith, joined-agents, v .agentsFit);
+        choresFit = omega (arith, joined-chores, J .fits);
+        easyPositive = omega (arith, joined-easy, v .easyPositive);
+        easier = omega (arith, joined-easy, joined-difficult, v .easier);
+        weightFits = omega (arith, joined-difficult, v .weightFits);
+        long = joined-long ∙ rw (joined-agents, joined-chores);
+        marks = λ i c l k. joined-mark i c (rw joined-agents at l) (rw joined-chores at k);
+      }
+
+  pub joined-taken : sheetRefusal (joinedSheet first second) ≡ 0
+  joined-taken = accepted (joinedSheet first second) joined-valid
