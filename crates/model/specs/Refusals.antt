@@ -131,7 +131,8 @@ joinRefusal first second lent =
 unfoldable pub showRefusal : List ℕ → List ℕ → ℕ → ℕ → ℕ
 showRefusal first second person chore =
     strandsRefusal first second
-    orElse 9 when (outOfRange (agentsOf first) person || outOfRange (joinedChores first second) chore)
+    orElse 9 when outOfRange (agentsOf first) person
+    orElse 9 when outOfRange (joinedChores first second) chore
 
 -- 9: "a book of no bytes or over 65,535, k out of range, or contents against the book's rule"
 unfoldable pub contentsRefusal : List ℕ → ℕ

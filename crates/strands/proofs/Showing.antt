@@ -1,0 +1,80 @@
+-- An agent's row out of the sheet that holds a chore, and what it is on the joined sheet.
+-- Assumes nothing.
+use Prim.Native.Nat.{ℕ, _-_, _<_}
+use mathlib.Core.List.{List, [], _++_}
+use mathlib.Core.Path.{_≡_, refl, sym, ap, subst, _∙_}
+use native.Mathlib.Omega.{arith}
+use lib.Seq.{take-at, drop-at}
+use borrow.Author.Tests.{eq-eqb, ne-eqb}
+use Rattle.finite.proofs.Tests.{by-test, by-cond}
+use Rattle.model.specs.Sheet.{agentsOf, choresOf, rowOf}
+use Rattle.model.specs.Strands.{joinedRow, joinedSheet, inFirst, strandSheet, strandMarks, joinedMarks}
+use Rattle.model.specs.Refusals.{showRefusal}
+use Rattle.model.specs.Promises.{shownMarks, MarksShown}
+use Rattle.sheet.specs.Valid.{Valid, Joinable}
+use Rattle.sheet.specs.Readers.{RowInSheet}
+use Rattle.sheet.proofs.Marks.{row-long}
+use Rattle.sheet.proofs.Strands.{joined-row}
+use Rattle.strands.proofs.Refusals.{show-joinable, show-person}
+
+-- the sheet that holds a chore is one of two that agree
+record Held (first held : List ℕ) : Type 0 where
+  valid : Valid held
+  agents : agentsOf held ≡ agentsOf first
+
+held-one : {first second : List ℕ} (chore : ℕ) → Joinable first second → Held first (strandSheet first second chore)
+unfolding strandSheet
+held-one {first} {second} chore J =
+    by-cond (Held first) (inFirst first chore) first second
+    (λ _. record { valid = J .validFirst; agents = refl })
+    (λ _. record { valid = J .validSecond; agents = sym (J .agents) })
+
+module _ (first second : List ℕ) (person chore : ℕ) where
+  pub not-shown : {k : ℕ} → k ≡ showRefusal first second person chore → (k ≡ 0 → ⊥) → MarksShown first second person chore k []
+  unfolding shownMarks
+  not-shown {k} e h =
+      record {
+        answer = e;
+        part = sym (rw (ne-eqb (showRefusal first second person chore) 0 (λ z. h (e ∙ z))));
+        onJoined = λ z. absurd (h z);
+      }
+
+  -- where nothing is refused
+  module _ (z : showRefusal first second person chore ≡ 0) where
+    J : Joinable first second
+    J = show-joinable first second person chore z
+
+    agent-there : person - 1 < agentsOf first
+    agent-there = let here = show-person first second person chore z in omega (arith, here .0, here .1)
+
+    -- the person has a row in the sheet that holds the chore
+    module _ {held : List ℕ} (e : held ≡ strandSheet first second chore) where
+      one : Held first held
+      one = subst (Held first) (sym e) (held-one chore J)
+
+      pub held-valid : Valid held
+      held-valid = one .valid
+
+      pub held-row : {m : ℕ} → m ≡ choresOf held → RowInSheet held m (person - 1)
+      held-row few = record { long = held-valid .long; chores = few; agent = omega (arith, agent-there, one .agents) }
+
+    -- the joined sheet's row is that of the first and then that of the second
+    strand-on-joined : strandMarks first second person chore ≡ joinedMarks first second person chore
+    unfolding strandMarks joinedMarks strandSheet joinedRow
+    strand-on-joined =
+        let i = person - 1 in
+        let row : rowOf (joinedSheet first second) i ≡ rowOf first i ++ rowOf second i = joined-row J i agent-there in
+        let inside : RowInSheet first (choresOf first) i = record { long = J .validFirst .long; chores = refl; agent = agent-there } in
+        by-test (inFirst first chore)
+        (λ e. rw (e, row, take-at (rowOf first i) (rowOf second i) _ (row-long inside)))
+        (λ e. rw (e, row, drop-at (rowOf first i) (rowOf second i) _ (row-long inside)))
+
+    pub shown : {k : ℕ} {held marks : List ℕ} → k ≡ showRefusal first second person chore → held ≡ strandSheet first second chore → marks ≡ rowOf held (person - 1) → MarksShown first second person chore k marks
+    unfolding shownMarks strandMarks
+    shown told e row =
+        let out = row ∙ ap (λ s. rowOf s (person - 1)) e in
+        record {
+          answer = told;
+          part = out ∙ sym (rw (eq-eqb (showRefusal first second person chore) 0 z));
+          onJoined = λ _. out ∙ strand-on-joined;
+        }
