@@ -1,7 +1,7 @@
 // The C interface: the calls on byte slices and numbers. A price takes four bytes, high byte first.
 // Each export is one call of a function with the same promise in a crate below.
 
-ghost use Rattle.cmodel.specs.Promises.{AllocatedInC, RecordedInC, ListCheckedInC, PricesCheckedInC, FoundInC, BookAllocatedInC};
+ghost use Rattle.cmodel.specs.Promises.{AllocatedInC, RecordedInC, ListCheckedInC, PricesCheckedInC, FoundInC, BookAllocatedInC, JoinedInC, ShownInC};
 
 #[no_mangle]
 pub extern "C" fn shares_allocate(
@@ -83,4 +83,31 @@ pub extern "C" fn shares_allocate_book(
         firsts,
         tally,
     )
+}
+
+#[no_mangle]
+pub extern "C" fn shares_join(
+    first: &[u8],
+    second: &[u8],
+    joined: &mut [u8],
+    written: &mut usize,
+) -> u8
+    ensures { λ r. ⌜ JoinedInC (now (first .entry)) (now (second .entry)) (now (joined .entry)) (now (joined .exit)) (now (written .entry)) (now (written .exit)) r ⌝ }
+{
+    cstrands::join(first, second, joined, written)
+}
+
+#[no_mangle]
+pub extern "C" fn shares_show_marks<'a>(
+    first: &'a [u8],
+    second: &'a [u8],
+    person: usize,
+    chore: usize,
+    strand: &mut u8,
+    start: &mut usize,
+    size: &mut usize,
+) -> u8
+    ensures { λ r. ⌜ ShownInC (now (first .entry)) (now (second .entry)) person chore (now (strand .entry)) (now (start .entry)) (now (size .entry)) (now (strand .exit)) (now (start .exit)) (now (size .exit)) r ⌝ }
+{
+    cstrands::show_marks(first, second, person, chore, strand, start, size)
 }

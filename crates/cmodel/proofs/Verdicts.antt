@@ -3,7 +3,7 @@
 use Prim.Native.Nat.{ℕ, _+_, _*_, _/_, _%_, _<_}
 use mathlib.Core.Path.{_≡_, refl, ap, _∙_}
 use native.Mathlib.Omega.{arith}
-use Rattle.model.specs.Replies.{Reply, refused, shared, sharedAt, absent, holds, unfair, wasteful, offPrice, priceEnvy, accepted}
+use Rattle.model.specs.Replies.{Reply, refused, shared, sharedAt, joined, absent, holds, unfair, wasteful, offPrice, priceEnvy, accepted}
 use Rattle.cmodel.specs.Numbers.{verdict, verdictNumber}
 use Rattle.cmodel.specs.TakenApart.{takenApart, replyOf, Fits}
 
@@ -41,4 +41,5 @@ verdict-told (offPrice r) fits = ap replyOf (apart 0 5 _ (omega arith) (omega ar
 verdict-told (priceEnvy i j) fits = ap replyOf (apart 0 6 (i + 256 * j) (omega arith) (omega arith)) ∙ rw (pair-low i j fits, pair-high i j fits)
 verdict-told (shared moves cuts) fits = absurd fits
 verdict-told (sharedAt moves cuts first) fits = absurd fits
+verdict-told (joined size) fits = absurd fits
 verdict-told absent fits = absurd fits

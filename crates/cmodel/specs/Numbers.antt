@@ -2,7 +2,7 @@
 use Prim.Native.Nat.{ℕ, _+_, _*_}
 use mathlib.Core.Path.{_≡_}
 use Rattle.model.specs.declared.ShareOut.{ShareOut}
-use Rattle.model.specs.Replies.{Reply, refused, shared, sharedAt, absent, holds, unfair, wasteful, offPrice, priceEnvy, accepted, shareOutReply}
+use Rattle.model.specs.Replies.{Reply, refused, shared, sharedAt, joined, absent, holds, unfair, wasteful, offPrice, priceEnvy, accepted, shareOutReply}
 
 -- What memory that held `before` holds when the answer for a sheet is told: what `number` makes of a refusal number, what `pick` takes of the
 -- moves, cuts and first entry. Where nothing is told it keeps what it held.
@@ -10,6 +10,7 @@ abbrev pub toldOver : (ℕ → ℕ → ℕ) → (ℕ → ℕ → ℕ → ℕ) �
 toldOver number pick (refused k) before = number before k
 toldOver number pick (shared moves cuts) before = pick moves cuts 0
 toldOver number pick (sharedAt moves cuts first) before = pick moves cuts first
+toldOver number pick (joined size) before = before
 toldOver number pick absent before = before
 toldOver number pick holds before = before
 toldOver number pick (unfair i j) before = before
@@ -45,7 +46,7 @@ pub record Verdict : Type 0 where
 abbrev pub verdict : ℕ → ℕ → ℕ → Verdict
 verdict refusal kind values = record { refusal = refusal; kind = kind; values = values }
 
--- The values are the agents of a pair, a byte each, or one chore. The answer of a share-out is no verdict.
+-- The values are the agents of a pair, a byte each, or one chore. The answer of a share-out, or of joining, is no verdict.
 abbrev pub verdictOf : Reply → Verdict
 verdictOf (refused k) = verdict k 0 0
 verdictOf holds = verdict 0 1 0
@@ -56,6 +57,7 @@ verdictOf (offPrice r) = verdict 0 5 r
 verdictOf (priceEnvy i j) = verdict 0 6 (i + 256 * j)
 verdictOf (shared moves cuts) = verdict 0 0 0
 verdictOf (sharedAt moves cuts first) = verdict 0 0 0
+verdictOf (joined size) = verdict 0 0 0
 verdictOf absent = verdict 0 0 0
 
 -- The two high bytes are the values, the next byte is the kind, the low byte the refusal number.

@@ -9,14 +9,15 @@ use Rattle.finite.specs.Lists.{tabulate}
 use Rattle.model.specs.declared.ShareOut.{ShareOut}
 use Rattle.model.specs.declared.BookResult.{BookResult}
 use Rattle.model.specs.Instance.{ownerOf, priceOf}
-use Rattle.model.specs.Sheet.{agentsOf, choresOf, asMarked}
+use Rattle.model.specs.Sheet.{agentsOf, choresOf, rowStart, asMarked}
+use Rattle.model.specs.Strands.{joinedSheet, strandOf, strandSheet}
 use Rattle.model.specs.Contents.{sheetCount, sheetStart, sheetSize, sheetOf}
 use Rattle.model.specs.Record.{Move}
-use Rattle.model.specs.Refusals.{_orElse_, _when_, sheetRefusal, ownersRefusal, pricesRefusal, recordedRefusal, lookupRefusal}
+use Rattle.model.specs.Refusals.{_orElse_, _when_, sheetRefusal, ownersRefusal, pricesRefusal, recordedRefusal, joinRefusal, showRefusal, lookupRefusal}
 use Rattle.model.specs.Replies.{Reply, holds, wasteful, accepted}
 use Rattle.model.specs.Verdicts.{unlessRefused, priceVerdict, listCheck}
 use Rattle.model.specs.Book.{firstEntry}
-use Rattle.model.specs.Promises.{Dominating, Allocated, RunMoves, Written, entryAt, BookAllocated}
+use Rattle.model.specs.Promises.{Dominating, Allocated, RunMoves, Written, joinedOver, MarksShown, entryAt, BookAllocated}
 use Rattle.pricebytes.specs.PriceBytes.{pricesIn, withPrices}
 use Rattle.cmodel.specs.Numbers.{verdictNumber, refusalAfter, movesAfter, cutsAfter, firstAfter, Told}
 
@@ -83,6 +84,25 @@ pub record FoundInC (book : List ℕ) (sheetNumber start size start′ size′ r
   -- "its bytes are handed back as that stretch of the book"
   pub inside : r ≡ 0 → start′ + size′ ≤ length book
   pub found : r ≡ 0 → take size′ (drop start′ book) ≡ sheetOf book (sheetNumber - 1)
+
+-- Two sheets joined: the size of the joined sheet goes into lent memory.
+pub record JoinedInC (first second lent lent′ : List ℕ) (written written′ r : ℕ) : Type 0 where
+  pub answer : r ≡ joinRefusal first second (length lent)
+  -- "The joined sheet is written at the start of a lent list"; with a refusal all of it keeps its content
+  pub atExit : lent′ ≡ joinedOver first second lent
+  pub writtenAtExit : written′ ≡ cond (eqb r 0) (length (joinedSheet first second)) written
+  -- what was written breaks no rule, so every call takes it
+  pub taken : r ≡ 0 → sheetRefusal (take written′ lent′) ≡ 0
+
+-- The marks of a person out of the sheet that holds a chore: which of the two sheets it is, where the row starts there, and its size.
+pub record ShownInC (first second : List ℕ) (person chore strand start size strand′ start′ size′ r : ℕ) : Type 0 where
+  pub answer : r ≡ showRefusal first second person chore
+  pub strandAtExit : strand′ ≡ cond (eqb r 0) (strandOf first chore) strand
+  pub startAtExit : start′ ≡ cond (eqb r 0) (rowStart (strandSheet first second chore) (person - 1)) start
+  pub sizeAtExit : size′ ≡ cond (eqb r 0) (choresOf (strandSheet first second chore)) size
+  -- "shown out of whichever of the two sheets holds the reel"
+  pub inside : r ≡ 0 → start′ + size′ ≤ length (strandSheet first second chore)
+  pub shown : r ≡ 0 → MarksShown first second person chore r (take size′ (drop start′ (strandSheet first second chore)))
 
 -- A whole book with its prices as bytes. The price list has a fourth as many entries as bytes.
 pub record BookInBytes (book owners prices scratch owners′ prices′ scratch′ : List ℕ) (answer : BookResult) : Type 0 where

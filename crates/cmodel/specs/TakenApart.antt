@@ -2,7 +2,7 @@
 use Prim.Native.Nat.{ℕ, _/_, _%_, _<_}
 use mathlib.Core.Bool.{cond}
 use lib.Dec.{eqb}
-use Rattle.model.specs.Replies.{Reply, refused, shared, sharedAt, absent, holds, unfair, wasteful, offPrice, priceEnvy, accepted}
+use Rattle.model.specs.Replies.{Reply, refused, shared, sharedAt, joined, absent, holds, unfair, wasteful, offPrice, priceEnvy, accepted}
 use Rattle.cmodel.specs.Numbers.{Verdict, verdict}
 
 -- `verdict & 0xff`, `verdict >> 8 & 0xff` and `verdict >> 16`
@@ -31,4 +31,5 @@ Fits (offPrice r) = Unit
 Fits (priceEnvy i j) = i < 256
 Fits (shared moves cuts) = ⊥
 Fits (sharedAt moves cuts first) = ⊥
+Fits (joined size) = ⊥
 Fits absent = ⊥
