@@ -1,18 +1,24 @@
 //! Sheets and books as bytes, out of rows of marks.
 
 use crate::book::ENTRY_BYTES;
+use crate::sheet::HEADER_BYTES;
 
 /// A sheet of these rows, whether or not it breaks a rule. The number of
 /// chores is the first row's length.
 pub fn sheet<R: AsRef<str>>(easy: u16, difficult: u16, rows: &[R]) -> Vec<u8> {
     let chores = rows.first().map_or(0, |row| row.as_ref().len());
-    let mut bytes = vec![byte(rows.len()), byte(chores)];
-    bytes.extend(easy.to_be_bytes());
-    bytes.extend(difficult.to_be_bytes());
+    let mut bytes = header(rows.len(), chores, easy.into(), difficult.into()).to_vec();
     for row in rows {
         bytes.extend(row.as_ref().bytes());
     }
     bytes
+}
+
+/// The bytes of a sheet before its marks.
+pub fn header(agents: usize, chores: usize, easy: u32, difficult: u32) -> [u8; HEADER_BYTES] {
+    let [easy, difficult] = [easy, difficult].map(|weight| two_bytes(weight as usize));
+    let [agents, chores] = [agents, chores].map(byte);
+    [agents, chores, easy[0], easy[1], difficult[0], difficult[1]]
 }
 
 /// A book of these bodies, with contents that keep the book's rule.

@@ -1,7 +1,7 @@
 //! The second program: the share-out of easy and difficult chores, and the
 //! checks of allocations and prices, written plainly from the scope document,
-//! with the opening, a record of the moves and the cost of a mark by the
-//! requests that came later.
+//! with the opening, a record of the moves, the cost of a mark and the joining
+//! of two sheets by the requests that came later.
 //!
 //! Where those documents say person, reel, list, even, best reel, price-one,
 //! ring and cut, the code says agent, chore, allocation (its bytes: owners),
@@ -26,6 +26,7 @@ pub mod refusal;
 pub mod search;
 pub mod share_out;
 pub mod sheet;
+pub mod strands;
 pub mod sums;
 pub mod waste;
 pub mod why;
@@ -33,3 +34,4 @@ pub mod why;
 pub use book::{allocate_book, lookup, BookShareOut, SheetShareOut, Tally};
 pub use checks::{check_list, check_prices, dominates, is_small_enough, ListVerdict, PriceVerdict};
 pub use share_out::{allocate, ShareOut};
+pub use strands::{join, show_marks, Join, Shown, Strand};

@@ -18,7 +18,11 @@ pub const OWNER: u8 = 7;
 pub const LENT: u8 = 8;
 /// A book against its rule, or a sheet that it does not have.
 pub const BOOK: u8 = 9;
+/// Marks of an agent or a chore that is not on the strands: the same number.
+pub const ABSENT: u8 = BOOK;
 /// A price list that is not one entry per chore, or a price out of range.
 pub const PRICE: u8 = 10;
 /// A lent record that the moves do not fit.
 pub const RECORD: u8 = 11;
+/// Strands whose agents or weights differ.
+pub const STRANDS: u8 = 12;

@@ -69,8 +69,8 @@ impl<'a> Sheet<'a> {
         self.row(agent).iter().map(|&mark| self.mark_cost(mark))
     }
 
-    /// The one place where marks are read.
-    fn row(&self, agent: usize) -> &[u8] {
+    /// An agent's marks: the one place where marks are read.
+    pub fn row(&self, agent: usize) -> &'a [u8] {
         &self.marks[agent * self.chores..][..self.chores]
     }
 

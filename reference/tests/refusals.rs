@@ -2,45 +2,17 @@
 
 mod common;
 
-use common::{as_bytes, b, c, share};
+use common::{as_bytes, b, c, faulty_sheet, first_fault, share, SHEET_FAULTS};
 use reference::limits::MIN_SCRATCH;
 use reference::{allocate, check_list, check_prices, compose, plain_checks, price_bytes, record};
 use reference::{ListVerdict, PriceVerdict, ShareOut};
-
-/// Faults of a sheet, in the order in which they are found.
-const SHEET_FAULTS: [u8; 6] = [5, 1, 2, 3, 5, 4];
-
-/// A sheet with the faults whose bits are set, in the order above.
-fn faulty_sheet(faults: usize) -> Vec<u8> {
-    let has = |fault: usize| faults >> fault & 1 == 1;
-    let agents = if has(1) { 33 } else { 2 };
-    let chores = if has(2) { 201 } else { 4 };
-    let difficult = if has(3) { 2 } else { 3 };
-    let mut sheet = compose::sheet(2, difficult, &vec!["e".repeat(chores); agents]);
-    if has(5) {
-        sheet[6] = b'x';
-    }
-    if has(4) {
-        sheet.push(b'e');
-    }
-    if has(0) {
-        sheet.truncate(5);
-    }
-    sheet
-}
-
-/// The number of the first fault whose bit is set.
-fn first_fault(faults: usize, numbers: &[u8]) -> Option<u8> {
-    let first = (0..numbers.len()).find(|fault| faults >> fault & 1 == 1);
-    first.map(|fault| numbers[fault])
-}
 
 #[test]
 fn allocate_finds_the_first_of_any_faults() {
     let numbers = [&SHEET_FAULTS[..], &[8, 8, 8]].concat();
     for faults in 1..1_usize << numbers.len() {
         let has = |fault: usize| faults >> fault & 1 == 1;
-        let sheet = faulty_sheet(faults);
+        let sheet = faulty_sheet(2, 4, faults);
         let mut owners = vec![77; if has(6) { 3 } else { 210 }];
         let mut prices = vec![78; if has(7) { 3 } else { 210 }];
         let mut scratch = vec![79; if has(8) { MIN_SCRATCH - 1 } else { MIN_SCRATCH }];
@@ -58,7 +30,7 @@ fn a_recorded_share_out_finds_the_first_of_any_faults() {
     let numbers = [&SHEET_FAULTS[..], &[8, 8, 8, 11]].concat();
     for faults in 1..1_usize << numbers.len() {
         let has = |fault: usize| faults >> fault & 1 == 1;
-        let sheet = faulty_sheet(faults);
+        let sheet = faulty_sheet(2, 4, faults);
         let mut owners = vec![77; if has(6) { 3 } else { 210 }];
         let mut prices = vec![78; if has(7) { 3 } else { 210 }];
         let mut scratch = vec![79; if has(8) { MIN_SCRATCH - 1 } else { MIN_SCRATCH }];
@@ -79,7 +51,7 @@ fn check_list_finds_the_first_of_any_faults() {
     let numbers = [&SHEET_FAULTS[..], &[6, 7, 8]].concat();
     for faults in 1..1_usize << numbers.len() {
         let has = |fault: usize| faults >> fault & 1 == 1;
-        let sheet = faulty_sheet(faults);
+        let sheet = faulty_sheet(2, 4, faults);
         // Where the sheet is accepted, it has 4 chores and 2 agents.
         let mut owners = vec![1; if has(6) { 5 } else { 4 }];
         owners[3] = if has(7) { 3 } else { 2 };
@@ -98,7 +70,7 @@ fn check_prices_finds_the_first_of_any_faults() {
     let numbers = [&SHEET_FAULTS[..], &[6, 7, 10, 10]].concat();
     for faults in 1..1_usize << numbers.len() {
         let has = |fault: usize| faults >> fault & 1 == 1;
-        let sheet = faulty_sheet(faults);
+        let sheet = faulty_sheet(2, 4, faults);
         let mut owners = vec![1; if has(6) { 3 } else { 4 }];
         owners[0] = if has(7) { 0 } else { 2 };
         let mut prices = vec![6; if has(8) { 5 } else { 4 }];

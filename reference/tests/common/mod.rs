@@ -43,6 +43,35 @@ pub fn share(sheet: &[u8]) -> Outcome {
     }
 }
 
+/// Faults of a sheet, in the order in which they are found.
+pub const SHEET_FAULTS: [u8; 6] = [5, 1, 2, 3, 5, 4];
+
+/// A sheet of easy marks, of this size unless that is a fault, with the faults
+/// whose bits are set, in the order above. Its weights are 2 and 3.
+pub fn faulty_sheet(agents: usize, chores: usize, faults: usize) -> Vec<u8> {
+    let has = |fault: usize| faults >> fault & 1 == 1;
+    let agents = if has(1) { 33 } else { agents };
+    let chores = if has(2) { 201 } else { chores };
+    let difficult = if has(3) { 2 } else { 3 };
+    let mut sheet = compose::sheet(2, difficult, &vec!["e".repeat(chores); agents]);
+    if has(5) {
+        sheet[6] = b'x';
+    }
+    if has(4) {
+        sheet.push(b'e');
+    }
+    if has(0) {
+        sheet.truncate(5);
+    }
+    sheet
+}
+
+/// The number of the first fault whose bit is set.
+pub fn first_fault(faults: usize, numbers: &[u8]) -> Option<u8> {
+    let first = (0..numbers.len()).find(|fault| faults >> fault & 1 == 1);
+    first.map(|fault| numbers[fault])
+}
+
 /// Up to 3 agents and 4 chores.
 pub fn tiny_sizes() -> impl Iterator<Item = (usize, usize)> {
     (1..=3).flat_map(|agents| (0..=4).map(move |chores| (agents, chores)))
