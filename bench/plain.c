@@ -1,6 +1,6 @@
-/* The share-out and the two checks as one would write them in C: arrays,
- * loops, no tricks. Nothing is proved of it; tests hold it to the answers of
- * the proved library.
+/* The share-out, the two checks and the join of two sheets as one would write
+ * them in C: arrays, loops, no tricks. Nothing is proved of it; tests hold it to
+ * the answers of the proved library.
  *
  * Agents and chores are counted from 0 here, and from 1 in lists and verdicts.
  */
@@ -530,4 +530,48 @@ uint32_t plain_check_prices(const uint8_t *sheet, size_t sheet_len,
             if (held.up_to_one[i] > held.sum[j])
                 return verdict_pair(SHARES_PRICE_ENVY, i, j);
     return verdict(SHARES_ACCEPTED, 0);
+}
+
+/* Two strands. */
+
+/* A refusal number: strands whose agents or weights differ. */
+#define STRANDS_DIFFER 12
+
+static uint8_t read_strands(Market *first, const uint8_t *first_sheet, size_t first_len,
+                            Market *second, const uint8_t *second_sheet, size_t second_len)
+{
+    uint8_t refusal = read_sheet(first, first_sheet, first_len);
+    if (refusal == SHARES_OK)
+        refusal = read_sheet(second, second_sheet, second_len);
+    if (refusal != SHARES_OK)
+        return refusal;
+    if (first->agents != second->agents || first->easy != second->easy || first->difficult != second->difficult)
+        return STRANDS_DIFFER;
+    if (first->chores + second->chores > SHARES_MAX_CHORES)
+        return SHARES_BAD_CHORES;
+    return SHARES_OK;
+}
+
+uint8_t plain_join(const uint8_t *first, size_t first_len,
+                   const uint8_t *second, size_t second_len,
+                   uint8_t *joined, size_t joined_len, size_t *written)
+{
+    Market one, other;
+    uint8_t refusal = read_strands(&one, first, first_len, &other, second, second_len);
+    if (refusal != SHARES_OK)
+        return refusal;
+    size_t chores = one.chores + other.chores;
+    if (joined_len < SHARES_SHEET_BYTES(one.agents, chores))
+        return SHARES_SHORT_LIST;
+
+    memcpy(joined, first, SHARES_HEADER_BYTES);
+    joined[1] = (uint8_t)chores;
+    uint8_t *row = joined + SHARES_HEADER_BYTES;
+    for (size_t i = 0; i < one.agents; i++) {
+        memcpy(row, one.marks + i * one.chores, one.chores);
+        memcpy(row + one.chores, other.marks + i * other.chores, other.chores);
+        row += chores;
+    }
+    *written = SHARES_SHEET_BYTES(one.agents, chores);
+    return SHARES_OK;
 }

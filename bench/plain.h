@@ -1,5 +1,5 @@
-/* The share-out and the two checks as a plain C program, to time the proved
- * ones beside.
+/* The share-out, the two checks and the join of two sheets as a plain C
+ * program, to time the proved ones beside.
  *
  * Each call takes, refuses, writes and returns what the call of that name in
  * shares.h does. Only the dominating list that is shown may be another. */
@@ -21,5 +21,9 @@ uint32_t plain_check_list(const uint8_t *sheet, size_t sheet_len,
 uint32_t plain_check_prices(const uint8_t *sheet, size_t sheet_len,
                             const uint8_t *owners, size_t owners_len,
                             const uint8_t *prices, size_t prices_len);
+
+uint8_t plain_join(const uint8_t *first, size_t first_len,
+                   const uint8_t *second, size_t second_len,
+                   uint8_t *joined, size_t joined_len, size_t *written);
 
 #endif

@@ -43,6 +43,15 @@ in_both! {
         prices: *const u8,
         prices_len: usize
     ) -> u32;
+    Join: shares_join, plain_join = fn(
+        first: *const u8,
+        first_len: usize,
+        second: *const u8,
+        second_len: usize,
+        joined: *mut u8,
+        joined_len: usize,
+        written: *mut usize
+    ) -> u8;
 }
 
 extern "C" {
@@ -59,6 +68,17 @@ extern "C" {
         record_len: usize,
         moves: *mut u64,
         cuts: *mut u8,
+    ) -> u8;
+    pub fn shares_show_marks(
+        first: *const u8,
+        first_len: usize,
+        second: *const u8,
+        second_len: usize,
+        person: usize,
+        chore: usize,
+        strand: *mut u8,
+        start: *mut usize,
+        size: *mut usize,
     ) -> u8;
     pub fn shares_find_sheet(
         book: *const u8,

@@ -11,8 +11,10 @@ mod library;
 pub mod lists;
 pub mod random;
 pub mod shapes;
+pub mod strands;
 
 pub use library::{Checks, Library, Second, PLAIN, PROVED};
+use strands::Pair;
 
 /// Entries of each list that tells what became of a book's sheets.
 pub const BOOK_SHEETS: usize = 16;
@@ -53,6 +55,32 @@ pub fn allocate_recorded(
             record.len(),
             moves,
             cuts,
+        )
+    }
+}
+
+/// 0 or the refusal number; the agent's row is that part of the strand's sheet.
+pub fn show_marks(
+    pair: &Pair,
+    agent: usize,
+    chore: usize,
+    strand: &mut u8,
+    start: &mut usize,
+    size: &mut usize,
+) -> u8 {
+    let Pair { first, second } = pair;
+    // SAFETY: as in `Library::allocate`.
+    unsafe {
+        c::shares_show_marks(
+            first.as_ptr(),
+            first.len(),
+            second.as_ptr(),
+            second.len(),
+            agent,
+            chore,
+            strand,
+            start,
+            size,
         )
     }
 }

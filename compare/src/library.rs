@@ -2,6 +2,7 @@
 //! two checks that the second program has as well.
 
 use crate::c;
+use crate::strands::Pair;
 use reference::{plain_checks, ListVerdict, PriceVerdict};
 
 /// The two checks of any program. Prices are bytes, four to a price.
@@ -29,6 +30,7 @@ pub struct Library {
     allocate: c::Allocate,
     check_list: c::CheckList,
     check_prices: c::CheckPrices,
+    join: c::Join,
 }
 
 /// What `rt staticlib capi` writes.
@@ -36,6 +38,7 @@ pub const PROVED: Library = Library {
     allocate: c::shares_allocate,
     check_list: c::shares_check_list,
     check_prices: c::shares_check_prices,
+    join: c::shares_join,
 };
 
 /// bench/plain.c.
@@ -43,6 +46,7 @@ pub const PLAIN: Library = Library {
     allocate: c::plain_allocate,
     check_list: c::plain_check_list,
     check_prices: c::plain_check_prices,
+    join: c::plain_join,
 };
 
 /// The kinds of verdicts, as include/shares.h numbers them.
@@ -85,6 +89,23 @@ impl Library {
                 scratch.len(),
                 moves,
                 cuts,
+            )
+        }
+    }
+
+    /// 0 or the refusal number. `written` is the length of the joined sheet.
+    pub fn join(&self, pair: &Pair, joined: &mut [u8], written: &mut usize) -> u8 {
+        let Pair { first, second } = pair;
+        // SAFETY: as in `Library::allocate`.
+        unsafe {
+            (self.join)(
+                first.as_ptr(),
+                first.len(),
+                second.as_ptr(),
+                second.len(),
+                joined.as_mut_ptr(),
+                joined.len(),
+                written,
             )
         }
     }

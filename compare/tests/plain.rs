@@ -1,10 +1,11 @@
 //! The plain C program against the proved library: every answer, and every byte that was lent. Only the dominating lists that they show
-//! may differ.
+//! may differ. The join is held to the second program's, as the proved one is elsewhere.
 
 use compare::lent::{assert_all_hold, enough, short, Lengths, Lent};
 use compare::lists::{damaged_given, judged, near_accepted, near_fair};
 use compare::random::{self, damaged, Random};
 use compare::shapes::{self, Shape};
+use compare::strands::{any_pair, joined, lent_length};
 use compare::{Checks, Library, PLAIN, PROVED};
 use reference::{ListVerdict, PriceVerdict};
 
@@ -158,6 +159,21 @@ fn checks_of_damaged_sheets_and_lists() {
         }
     }
     for number in [1, 2, 3, 4, 5, 6, 7, 8, 10] {
+        assert!(numbers[number] > 100, "{numbers:?}");
+    }
+}
+
+#[test]
+fn joined_strands() {
+    let mut random = Random::new(48);
+    let mut numbers = [0; 13];
+    for _ in 0..DAMAGED {
+        let pair = any_pair(&mut random);
+        let length = lent_length(&mut random, &pair);
+        let answer = joined(&PLAIN, &mut random, &pair, length);
+        numbers[usize::from(answer.err().unwrap_or(0))] += 1;
+    }
+    for number in [0, 1, 2, 3, 4, 5, 8, 12] {
         assert!(numbers[number] > 100, "{numbers:?}");
     }
 }

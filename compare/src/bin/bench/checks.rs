@@ -1,5 +1,6 @@
 //! The two checks: proved, in plain C, and the second program's.
 
+use crate::columns;
 use crate::sheets::{halves, sheets};
 use crate::timing::in_turn;
 use compare::lists::{bytes, shared_out, Given};
@@ -67,13 +68,8 @@ fn check_list(program: &dyn Checks, given: &Given) -> ListVerdict {
 fn row(name: &str, all: &[Given], check: impl Fn(&dyn Checks, &Given)) {
     let run = |program| all.iter().for_each(|given| check(program, given));
     let [proved, plain, second] = PROGRAMS;
-    let [proved, plain, second] =
-        in_turn([&mut || run(proved), &mut || run(plain), &mut || run(second)]);
-    println!(
-        "{name:<39}{proved:>9.2}{plain:>9.2}{:>7.2}{second:>11.2}{:>7.2}",
-        proved / plain,
-        proved / second
-    );
+    let times = in_turn([&mut || run(proved), &mut || run(plain), &mut || run(second)]);
+    columns::row(name, times);
 }
 
 /// All three must say what is expected.
@@ -120,10 +116,7 @@ fn rows(random: &mut Random, agents: usize, chores: usize) {
 }
 
 pub fn table(random: &mut Random) {
-    println!(
-        "{:<39}{:>9}{:>9}{:>7}{:>11}{:>7}",
-        "check", "proved", "plain C", "ratio", "reference", "ratio"
-    );
+    columns::heading("check");
     for (agents, chores) in [(3, 200), (6, 60), (32, 200)] {
         rows(random, agents, chores);
     }

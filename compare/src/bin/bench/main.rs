@@ -1,8 +1,10 @@
-//! Times the proved share-out and both checks beside a plain C program's and the
-//! second program's. Estimates how long the most moves of a share-out would
-//! take, and times what a record adds.
+//! Times the proved share-out, both checks and the join beside a plain C
+//! program's and the second program's. Estimates how long the most moves of a
+//! share-out would take, and times what a record adds.
 
 mod checks;
+mod columns;
+mod joins;
 mod most_moves;
 mod records;
 mod share_outs;
@@ -20,8 +22,10 @@ fn main() {
     let mut random = Random::new(31);
     share_outs::table(&mut random);
     println!();
-    // Of its own, so that its rows decide nothing about the tables after it.
+    // Of their own, so that their rows decide nothing about the tables after them.
     checks::table(&mut Random::new(32));
+    println!();
+    joins::table(&mut Random::new(33));
     println!();
     most_moves::table(&mut random);
     println!();
