@@ -58,6 +58,8 @@ extern "C" {
  * chores. */
 #define SHARES_HEADER_BYTES 6
 #define SHARES_SHEET_BYTES(n, m) (SHARES_HEADER_BYTES + SHARES_AS(size_t, n) * SHARES_AS(size_t, m))
+/* The bytes of the longest sheet, 6,406. */
+#define SHARES_MAX_SHEET SHARES_SHEET_BYTES(SHARES_MAX_AGENTS, SHARES_MAX_CHORES)
 /* A price handed to shares_check_prices is 1 to this. */
 #define SHARES_MAX_PRICE 1000000
 #define SHARES_PRICE_BYTES 4
@@ -85,13 +87,15 @@ extern "C" {
 #define SHARES_STACK_CHECK_PRICES 2048
 #define SHARES_STACK_FIND_SHEET 512
 #define SHARES_STACK_ALLOCATE_BOOK 16384
+#define SHARES_STACK_JOIN 1024
+#define SHARES_STACK_SHOW_MARKS 1024
 
 /* Refusal numbers. A call that could give several gives the first, in the
  * order of its list below. A refused call changes nothing that was lent to it,
  * and that includes every result behind a pointer. */
 #define SHARES_OK 0
 #define SHARES_BAD_AGENTS 1      /* n is 0 or above 32 */
-#define SHARES_BAD_CHORES 2      /* m is above 200 */
+#define SHARES_BAD_CHORES 2      /* m is above 200, of one sheet or two together */
 #define SHARES_BAD_WEIGHTS 3     /* a is 0, b <= a, or b is above 1,000 */
 #define SHARES_BAD_MARK 4        /* a mark other than 'e' and 'd' */
 #define SHARES_BAD_LENGTH 5      /* a sheet of other than 6 + n * m bytes */
@@ -99,8 +103,10 @@ extern "C" {
 #define SHARES_BAD_OWNER 7       /* an owner of 0 or above n */
 #define SHARES_SHORT_LIST 8      /* a lent list or the scratch is too short */
 #define SHARES_BAD_BOOK 9        /* no book, or no such sheet in it */
+#define SHARES_NOT_THERE 9       /* the same number: no such agent or chore */
 #define SHARES_BAD_PRICE 10      /* other than m prices, or one out of range */
 #define SHARES_SHORT_RECORD 11   /* the moves do not fit the record */
+#define SHARES_UNLIKE_SHEETS 12  /* two sheets differ in n, a or b */
 
 /* Shares out a sheet.
  *
@@ -211,6 +217,44 @@ uint8_t shares_allocate_book(const uint8_t *book, size_t book_len,
                              uint32_t firsts[SHARES_BOOK_SHEETS],
                              uint64_t tally[2]);
 
+/* Joins two sheets, the strands of one festival, which must have the same n, a
+ * and b. The second's chores follow the first's.
+ *
+ * Lent: joined, at least SHARES_SHEET_BYTES(n, m) bytes, m being the chores of
+ * both together. SHARES_MAX_SHEET are always enough.
+ * Returns 0: the joined sheet stands at the start of joined, and the rest of that
+ * is kept. It has the n, a and b of both; a row has the agent's marks of the
+ * first sheet, then those of the second. *written is its number of bytes. It
+ * breaks no rule, so every call that is handed a sheet takes it.
+ * Returns a refusal number: the first sheet's own, 5 for fewer than 6 bytes, 1,
+ * 2, 3, 5, 4; the second's own, in the same order; 12; 2 for more than 200 chores
+ * together; 8.
+ *
+ * If an owner list is not wasteful on the joined sheet, that is, if no other list
+ * costs nobody more and somebody less, neither strand's part of it is wasteful on
+ * its own sheet. It is proved. A part may be unfair where the whole list is not.
+ * Which rows are of difficult marks only is judged on the joined sheet.
+ */
+uint8_t shares_join(const uint8_t *first, size_t first_len,
+                    const uint8_t *second, size_t second_len,
+                    uint8_t *joined, size_t joined_len, size_t *written);
+
+/* Shows the marks of an agent out of whichever of two sheets holds a chore. The
+ * sheets are two that could be joined, and chores are numbered as on the joined
+ * sheet: with m chores in the first, chore m is its last, and chore m + 1 the
+ * second's first. Nothing is copied.
+ *
+ * Returns 0: *strand is 1 if the first sheet holds the chore, and 2 if the second
+ * does. *start is the place in that sheet, counted from 0, of the first mark of
+ * agent number person, and *size the number of marks in this agent's row there.
+ * Returns a refusal number: as shares_join up to 2, then 9 for a person of 0 or
+ * above n, or a chore of 0 or above the chores of both together.
+ */
+uint8_t shares_show_marks(const uint8_t *first, size_t first_len,
+                          const uint8_t *second, size_t second_len,
+                          size_t person, size_t chore,
+                          uint8_t *strand, size_t *start, size_t *size);
+
 /* A verdict is one number. Its low byte is 0 or the refusal number, the next byte
  * is its kind; the kinds of the two checks share no value. What the two high
  * bytes hold depends on the kind:
@@ -287,7 +331,7 @@ static inline const char *shares_refusal_text(uint8_t number)
     case SHARES_BAD_AGENTS:
         return "The number of agents is 0 or above 32.";
     case SHARES_BAD_CHORES:
-        return "The number of chores is above 200.";
+        return "The number of chores, of one sheet or of two together, is above 200.";
     case SHARES_BAD_WEIGHTS:
         return "The easy weight is 0 or not below the difficult one, or the difficult one is above 1,000.";
     case SHARES_BAD_MARK:
@@ -301,11 +345,13 @@ static inline const char *shares_refusal_text(uint8_t number)
     case SHARES_SHORT_LIST:
         return "A list that was lent for results, or the scratch, is too short.";
     case SHARES_BAD_BOOK:
-        return "The bytes are no book, or the book has no sheet of this number.";
+        return "The bytes are no book, or there is no sheet, agent or chore of this number.";
     case SHARES_BAD_PRICE:
         return "The price list does not have one entry for each chore, or a price is 0 or above 1,000,000.";
     case SHARES_SHORT_RECORD:
         return "The record that was lent is too short for the moves.";
+    case SHARES_UNLIKE_SHEETS:
+        return "The two sheets differ in the number of agents or in a weight.";
     default:
         return "No refusal has this number.";
     }
