@@ -1,10 +1,8 @@
-/* Every refusal number of every call, and that a refused call changes nothing
- * that was lent to it. */
+/* Every refusal number of every call on a sheet or a book, and that a refused
+ * call changes nothing that was lent to it. strands.c has the calls on two sheets. */
 #include <stdbool.h>
-#include <string.h>
 
-#include "shares.h"
-#include "tests.h"
+#include "refused.h"
 
 #define CHORES 5
 #define PRICES (SHARES_PRICE_BYTES * CHORES)
@@ -42,18 +40,8 @@ static struct lent lent, before;
 
 static void fill(void)
 {
-    uint8_t *bytes = (uint8_t *)&lent;
-    for (size_t i = 0; i < sizeof lent; i++)
-        bytes[i] = (uint8_t)(37 * i + 101);
+    fill_lent(&lent, sizeof lent);
     memcpy(&before, &lent, sizeof lent);
-}
-
-static int is_kept(const char *call, const char *what)
-{
-    int kept = memcmp(&lent, &before, sizeof lent) == 0;
-    if (!kept)
-        printf("%s, %s: something lent has changed\n", call, what);
-    return kept;
 }
 
 /* Entries from `count` on of the lists that tell of a book's sheets. */
@@ -70,7 +58,7 @@ static bool keeps_results_from(size_t count)
 static void expect_kept(const char *call, const char *what, uint32_t got, uint32_t wanted)
 {
     tests++;
-    passed += is_as_wanted(call, what, got, wanted) & is_kept(call, what);
+    passed += is_as_wanted(call, what, got, wanted) & is_kept(call, what, &lent, &before, sizeof lent);
 }
 
 static uint8_t allocate(const uint8_t *s, size_t s_len, size_t owners_len, size_t prices_len, size_t scratch_len)
@@ -116,32 +104,6 @@ static uint8_t allocate_book(const uint8_t *book, size_t book_len, size_t owners
 }
 
 #define WHOLE (sizeof sheet)
-
-/* The sheet above, with a fault. */
-struct fault {
-    const char *what;
-    uint8_t number;
-    const char *bytes;
-    size_t length;
-};
-
-#define FAULT(what, number, bytes) {what, number, bytes, sizeof bytes - 1}
-
-static const struct fault faults[] = {
-    FAULT("no agents", SHARES_BAD_AGENTS, "\0\5\0\1\0\3" "eeeeedddde"),
-    FAULT("33 agents", SHARES_BAD_AGENTS, "\41\5\0\1\0\3" "eeeeedddde"),
-    FAULT("201 chores", SHARES_BAD_CHORES, "\2\311\0\1\0\3" "eeeeedddde"),
-    FAULT("easy weight 0", SHARES_BAD_WEIGHTS, "\2\5\0\0\0\3" "eeeeedddde"),
-    FAULT("equal weights", SHARES_BAD_WEIGHTS, "\2\5\0\1\0\1" "eeeeedddde"),
-    FAULT("difficult weight 1001", SHARES_BAD_WEIGHTS, "\2\5\0\1\3\351" "eeeeedddde"),
-    FAULT("a mark x", SHARES_BAD_MARK, "\2\5\0\1\0\3" "xeeeedddde"),
-    FAULT("a mark E", SHARES_BAD_MARK, "\2\5\0\1\0\3" "eeeeeddddE"),
-    FAULT("no bytes", SHARES_BAD_LENGTH, ""),
-    FAULT("5 bytes", SHARES_BAD_LENGTH, "\2\5\0\1\0"),
-    FAULT("a byte too few", SHARES_BAD_LENGTH, "\2\5\0\1\0\3" "eeeeedddd"),
-    FAULT("a byte too many", SHARES_BAD_LENGTH, "\2\5\0\1\0\3" "eeeeeddddee"),
-};
-#define FAULTS (sizeof faults / sizeof *faults)
 
 static void test_sheets(void)
 {
