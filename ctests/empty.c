@@ -119,11 +119,31 @@ static void test_books(void)
            SHARES_SHORT_LIST);
 }
 
+/* Even without chores a joined sheet has a header. */
+static void test_strands(void)
+{
+    static uint8_t joined[SHARES_SHEET_BYTES(1, 0)];
+    const size_t whole = sizeof bare;
+    size_t written = 0, start = 0, size = 0;
+    uint8_t strand = 0;
+    expect("join", "nothing at all", shares_join(NULL, 0, NULL, 0, NULL, 0, &written), SHARES_BAD_LENGTH);
+    expect("join", "no first sheet", shares_join(NULL, 0, bare, whole, joined, whole, &written), SHARES_BAD_LENGTH);
+    expect("join", "no second sheet", shares_join(bare, whole, NULL, 0, joined, whole, &written), SHARES_BAD_LENGTH);
+    expect("join", "nothing lent", shares_join(bare, whole, bare, whole, NULL, 0, &written), SHARES_SHORT_LIST);
+    expect("show_marks", "nothing at all", shares_show_marks(NULL, 0, NULL, 0, 1, 1, &strand, &start, &size),
+           SHARES_BAD_LENGTH);
+    expect("show_marks", "no first sheet",
+           shares_show_marks(NULL, 0, sheet, sizeof sheet, 1, 1, &strand, &start, &size), SHARES_BAD_LENGTH);
+    expect("show_marks", "no second sheet",
+           shares_show_marks(sheet, sizeof sheet, NULL, 0, 1, 1, &strand, &start, &size), SHARES_BAD_LENGTH);
+}
+
 int main(void)
 {
     test_allocate();
     test_allocate_recorded();
     test_checks();
     test_books();
+    test_strands();
     return finished("lists of no bytes at NULL");
 }

@@ -22,6 +22,7 @@ static void test_sizes(void)
     expect("sheet bytes", "no chores", SHARES_SHEET_BYTES(1, 0) == SHARES_HEADER_BYTES, 1);
     expect("sheet bytes", "of bytes, without a wrap", SHARES_SHEET_BYTES(agents, chores) == 6406, 1);
     expect("sheet bytes", "of sums", SHARES_SHEET_BYTES(1 + 1, 2 + 1) == sizeof sheet, 1);
+    expect("sheet bytes", "of the longest", SHARES_MAX_SHEET == 6406, 1);
 }
 
 static void test_most_moves(void)
@@ -79,12 +80,12 @@ static void test_price(uint32_t price)
 static void test_texts(void)
 {
     const char *const none = shares_refusal_text(255);
-    for (uint8_t i = SHARES_OK; i <= SHARES_SHORT_RECORD; i++) {
+    for (uint8_t i = SHARES_OK; i <= SHARES_UNLIKE_SHEETS; i++) {
         expect("refusal text", "of its own", strcmp(shares_refusal_text(i), none) != 0, 1);
         for (uint8_t j = 0; j < i; j++)
             expect("refusal text", "each another", strcmp(shares_refusal_text(i), shares_refusal_text(j)) != 0, 1);
     }
-    for (uint8_t i = SHARES_SHORT_RECORD + 1; i != 0; i++)
+    for (uint8_t i = SHARES_UNLIKE_SHEETS + 1; i != 0; i++)
         expect("refusal text", "no such number", strcmp(shares_refusal_text(i), none) == 0, 1);
 }
 

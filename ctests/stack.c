@@ -24,7 +24,8 @@ static uint8_t long_owners[SHARES_BOOK_ENTRIES], long_prices[SHARES_PRICE_BYTES 
 static uint8_t refusals[SHARES_BOOK_SHEETS], cuts[SHARES_BOOK_SHEETS];
 static uint64_t moves[SHARES_BOOK_SHEETS], tally[2];
 static uint32_t firsts[SHARES_BOOK_SHEETS];
-static size_t start, size;
+static uint8_t first[STRAND], second[STRAND], joined[SHEET], strand;
+static size_t start, size, written;
 
 static void allocate(void)
 {
@@ -58,6 +59,16 @@ static void allocate_book(void)
                          sizeof scratch, refusals, moves, cuts, firsts, tally);
 }
 
+static void join(void)
+{
+    shares_join(first, sizeof first, second, sizeof second, joined, sizeof joined, &written);
+}
+
+static void show_marks(void)
+{
+    shares_show_marks(first, sizeof first, second, sizeof second, AGENTS, CHORES, &strand, &start, &size);
+}
+
 struct call {
     const char *name;
     void (*run)(void);
@@ -72,6 +83,8 @@ static struct call calls[] = {
     {"shares_check_prices", check_prices, SHARES_STACK_CHECK_PRICES, 0},
     {"shares_find_sheet", find_sheet, SHARES_STACK_FIND_SHEET, 0},
     {"shares_allocate_book", allocate_book, SHARES_STACK_ALLOCATE_BOOK, 0},
+    {"shares_join", join, SHARES_STACK_JOIN, 0},
+    {"shares_show_marks", show_marks, SHARES_STACK_SHOW_MARKS, 0},
 };
 #define CALLS (sizeof calls / sizeof *calls)
 /* The first of them write the owners. */
@@ -120,6 +133,8 @@ static void make_book(void)
 static void measure_all(uint32_t seed)
 {
     make_sheet(sheet, seed);
+    cut_strand(sheet, 0, HALF, first);
+    cut_strand(sheet, HALF, CHORES, second);
     for (size_t i = 0; i < CALLS; i++)
         measure(&calls[i]);
     owners[seed % CHORES] ^= 1;

@@ -14,12 +14,26 @@ struct answer {
     uint8_t prices[PRICES], recorded_prices[PRICES];
     uint8_t dominating[CHORES];
     uint8_t record[RECORD];
+    uint8_t joined[SHEET];
     uint64_t moves, recorded_moves;
-    uint32_t refusal, cuts, recorded, recorded_cuts, list, edited, priced;
+    size_t written, start, size;
+    uint32_t refusal, cuts, recorded, recorded_cuts, list, edited, priced, joining, showing, strand;
 };
 
 static uint8_t sheets[SHEETS][SHEET];
 static struct answer alone[SHEETS];
+
+/* Both calls on two sheets, the strands of one. */
+static void ask_of_strands(const uint8_t *sheet, struct answer *answer)
+{
+    uint8_t first[STRAND], second[STRAND], strand = 0;
+    cut_strand(sheet, 0, HALF, first);
+    cut_strand(sheet, HALF, CHORES, second);
+    answer->joining = shares_join(first, STRAND, second, STRAND, answer->joined, SHEET, &answer->written);
+    answer->showing = shares_show_marks(first, STRAND, second, STRAND, answer->owners[0], CHORES, &strand,
+                                        &answer->start, &answer->size);
+    answer->strand = strand;
+}
 
 static void ask(const uint8_t *sheet, struct answer *answer)
 {
@@ -37,6 +51,7 @@ static void ask(const uint8_t *sheet, struct answer *answer)
     memcpy(edited, answer->owners, CHORES);
     edited[0] = (uint8_t)(1 + edited[0] % AGENTS);
     answer->edited = shares_check_list(sheet, SHEET, edited, CHORES, answer->dominating, CHORES);
+    ask_of_strands(sheet, answer);
 }
 
 /* Hands back its argument if some answer differs. */
@@ -62,6 +77,8 @@ int main(void)
         expect("alone", "shared out", alone[i].refusal, SHARES_OK);
         expect("alone", "shared out with a record", alone[i].recorded, SHARES_OK);
         expect("alone", "accepted", shares_verdict_kind(alone[i].priced), SHARES_ACCEPTED);
+        expect("alone", "joined", alone[i].joining, SHARES_OK);
+        expect("alone", "marks shown", alone[i].showing, SHARES_OK);
     }
     for (size_t i = 0; i < THREADS; i++)
         expect("threads", "started", (uint32_t)pthread_create(&threads[i], NULL, ask_again, alone), 0);
