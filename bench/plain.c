@@ -534,9 +534,6 @@ uint32_t plain_check_prices(const uint8_t *sheet, size_t sheet_len,
 
 /* Two strands. */
 
-/* A refusal number: strands whose agents or weights differ. */
-#define STRANDS_DIFFER 12
-
 static uint8_t read_strands(Market *first, const uint8_t *first_sheet, size_t first_len,
                             Market *second, const uint8_t *second_sheet, size_t second_len)
 {
@@ -546,7 +543,7 @@ static uint8_t read_strands(Market *first, const uint8_t *first_sheet, size_t fi
     if (refusal != SHARES_OK)
         return refusal;
     if (first->agents != second->agents || first->easy != second->easy || first->difficult != second->difficult)
-        return STRANDS_DIFFER;
+        return SHARES_UNLIKE_SHEETS;
     if (first->chores + second->chores > SHARES_MAX_CHORES)
         return SHARES_BAD_CHORES;
     return SHARES_OK;

@@ -1,5 +1,5 @@
 # The exports of crates/capi/src/lib.rt as prototypes in C. A slice passes as a pointer and its length, a lent number as a pointer, a lent array
-# as an array.
+# as an array. C knows no lifetimes.
 function in_c(type) {
     if (type == "usize")
         return "size_t"
@@ -46,6 +46,7 @@ taking {
 }
 
 taking && /\) -> / {
+    gsub(/<'[a-z]+>|'[a-z]+ /, "", text)
     print prototype(text)
     taking = 0
 }

@@ -87,8 +87,8 @@ extern "C" {
 #define SHARES_STACK_CHECK_PRICES 2048
 #define SHARES_STACK_FIND_SHEET 512
 #define SHARES_STACK_ALLOCATE_BOOK 16384
-#define SHARES_STACK_JOIN 1024
-#define SHARES_STACK_SHOW_MARKS 1024
+#define SHARES_STACK_JOIN 512
+#define SHARES_STACK_SHOW_MARKS 512
 
 /* Refusal numbers. A call that could give several gives the first, in the
  * order of its list below. A refused call changes nothing that was lent to it,

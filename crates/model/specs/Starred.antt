@@ -114,7 +114,7 @@ table =
     ∷ lent-join (chores 200) (chores 1) 207 2
     -- people, the easy weight, the difficult weight differ
     ∷ lent-join (agents 2) (agents 3) 10 12
-    ∷ lent-join twoEasy (sheet 2 3 ("e" ∷ "e" ∷ [])) 12 12
+    ∷ lent-join strand1 (sheet 2 3 ("e" ∷ "e" ∷ [])) 12 12
     ∷ lent-join twoEasy (sheet 1 3 ("e" ∷ "e" ∷ [])) 12 12
     -- several at once: the first sheet's own number, the second's own, 12, 2, 8
     ∷ lent-join tooMany [] 0 1
