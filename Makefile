@@ -59,6 +59,6 @@ run:
 	@target/bin/shares < examples/festival.book | tee target/festival.out
 	@echo; $(TEXTFORM) names examples/festival.txt < target/festival.out
 
-# The proved share-out and both checks timed beside a plain C program's (bench/plain.c) and the second program's.
+# The proved share-out, both checks and the join timed beside a plain C program's (bench/plain.c) and the second program's.
 bench: $(ARCHIVE)
 	@cargo run --offline --quiet --release --manifest-path compare/Cargo.toml --bin bench

@@ -40,7 +40,7 @@ fn main() {
     match arguments::what_is_asked() {
         Asked::Run => share_out(),
         Asked::Help => put_usage(STDOUT_FILENO),
-        Asked::Version => put(STDOUT_FILENO, b"shares 6.2.7\n"),
+        Asked::Version => put(STDOUT_FILENO, b"shares 6.2.8\n"),
         Asked::Unknown => put_usage(STDERR_FILENO),
     }
 }

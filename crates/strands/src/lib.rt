@@ -1,7 +1,7 @@
 // Two strands: whether their sheets can be joined, the sheet that they make, and an agent's marks out of the sheet that holds a chore.
 
 ghost use mathlib.Core.Path.{_≡_};
-ghost use Prim.Native.Nat.{_+_, _≤_};
+ghost use Prim.Native.Nat.{_≤_};
 ghost use mathlib.Core.List.{_∷_};
 ghost use lib.ListN.{length, take, drop};
 ghost use lib.Seq.{sets};

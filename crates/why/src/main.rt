@@ -33,7 +33,7 @@ fn put_usage(fd: i32) {
 }
 
 fn put_version() {
-    put(STDOUT_FILENO, b"why 6.2.7\n");
+    put(STDOUT_FILENO, b"why 6.2.8\n");
 }
 
 // Nothing goes out after a text that did not.

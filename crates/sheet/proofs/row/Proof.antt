@@ -1,5 +1,4 @@
 -- `sheet::row` meets its contract: the row lies inside the sheet.
-use mathlib.Core.Path.{_≡_, _∙_}
 use native.Mathlib.Nat.{add-sub-cancel-left}
 use native.Mathlib.Omega.{arith}
 use borrow.Author.Needs.{needs}

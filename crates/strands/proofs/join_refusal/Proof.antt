@@ -1,5 +1,5 @@
 -- `strands::join_refusal` meets its contract.
-use mathlib.Core.Path.{_≡_, sym, _∙_}
+use mathlib.Core.Path.{sym, _∙_}
 use borrow.Author.Needs.{needs}
 use Rattle.model.specs.Refusals.{joinRefusal}
 use Rattle.sheet.proofs.OrElse.{or-else-stop, or-else-go}

@@ -1,8 +1,8 @@
 -- `strands::joined_size` meets its contract.
-use mathlib.Core.Path.{_≡_, sym, _∙_}
+use Prim.Native.Nat.{_*_, _≤_}
+use mathlib.Core.Path.{sym, _∙_}
 use native.Mathlib.Nat.{mul-le-mul}
 use native.Mathlib.Omega.{arith}
-use Prim.Native.Nat.{_*_, _≤_}
 use Rattle.sheet.proofs.Strands.{joined-long}
 use Rattle.strands.proofs.Refusals.{joinable-headers}
 use Rattle.strands.proofs.joined_size.Statement.{statement}

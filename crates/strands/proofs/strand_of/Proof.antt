@@ -1,5 +1,5 @@
 -- `strands::strand_of` meets its contract.
-use mathlib.Core.Path.{_≡_, sym, _∙_}
+use mathlib.Core.Path.{sym, _∙_}
 use borrow.Author.Needs.{needs}
 use Rattle.model.specs.Strands.{strandOf}
 use Rattle.strands.proofs.strand_of.Statement.{statement}

@@ -1,5 +1,5 @@
 -- `strands::strand_sheet` meets its contract.
-use mathlib.Core.Path.{_≡_, sym, _∙_}
+use mathlib.Core.Path.{sym, _∙_}
 use borrow.Author.Needs.{needs}
 use Rattle.model.specs.Strands.{strandSheet}
 use Rattle.strands.proofs.strand_sheet.Statement.{statement}

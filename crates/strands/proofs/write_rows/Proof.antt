@@ -1,5 +1,5 @@
 -- `strands::write_rows` meets its contract. The loop's invariant is `Writing`.
-use Prim.Native.Nat.{_-_, _≤_}
+use Prim.Native.Nat.{_-_}
 use mathlib.Core.Path.{_≡_, refl, ap, _∙_}
 use native.Mathlib.Omega.{arith}
 use lib.Seq.{sets}
