@@ -84,6 +84,7 @@ fn copy_marks(sheet: &[u8], start: usize, count: usize, joined: &mut [u8], at: u
     }
 }
 
+// All but the count is the first sheet's.
 fn write_header(first: &[u8], m: u8, joined: &mut [u8])
     requires { ⌜ headerSize ≤ length (now first) ⌝ }
     requires { ⌜ headerSize ≤ length (now joined) ⌝ }
