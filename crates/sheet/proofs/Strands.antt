@@ -62,11 +62,12 @@ among first second (suc k) i l =
     })
 
 module _ {first second : List ℕ} (J : Joinable first second) where
-  row₁ : (i : ℕ) → i < agentsOf first → RowInSheet first (choresOf first) i
-  row₁ i l = record { long = J .validFirst .long; chores = refl; agent = l }
+  -- an agent has a row in both sheets
+  pub first-row : {i m : ℕ} → i < agentsOf first → m ≡ choresOf first → RowInSheet first m i
+  first-row l e = record { long = J .validFirst .long; chores = e; agent = l }
 
-  row₂ : (i : ℕ) → i < agentsOf first → RowInSheet second (choresOf second) i
-  row₂ i l = record { long = J .validSecond .long; chores = refl; agent = omega (arith, J .agents) }
+  pub second-row : {i m : ℕ} → i < agentsOf first → m ≡ choresOf second → RowInSheet second m i
+  second-row l e = record { long = J .validSecond .long; chores = e; agent = omega (arith, J .agents) }
 
   -- the lengths of its parts, and its own
 
@@ -79,7 +80,7 @@ module _ {first second : List ℕ} (J : Joinable first second) where
 
   joined-row-long : (i : ℕ) → i < agentsOf first → length (joinedRow first second i) ≡ joinedChores first second
   unfolding joinedRow joinedChores
-  joined-row-long i l = length-append (rowOf first i) (rowOf second i) ∙ ap₂ _+_ (row-long (row₁ i l)) (row-long (row₂ i l))
+  joined-row-long i l = length-append (rowOf first i) (rowOf second i) ∙ ap₂ _+_ (row-long (first-row l refl)) (row-long (second-row l refl))
 
   pub rows-long : (k : ℕ) → k ≤ agentsOf first → length (joinedRows first second k) ≡ k * joinedChores first second
   unfolding joinedRows
@@ -146,7 +147,7 @@ module _ {first second : List ℕ} (J : Joinable first second) where
   mark-first i c l k =
       mark-in-row (joinedSheet first second) i c (omega (arith, joined-chores))
       ∙ ap (λ row. getD row c 0) (joined-row i l)
-      ∙ List·getD-append (rowOf first i) (rowOf second i) 0 c (rw (row-long (row₁ i l)) k)
+      ∙ List·getD-append (rowOf first i) (rowOf second i) 0 c (rw (row-long (first-row l refl)) k)
       ∙ sym (mark-in-row first i c k)
 
   pub mark-second : (i c : ℕ) → i < agentsOf first → c < choresOf second → markAt (joinedSheet first second) i (choresOf first + c) ≡ markAt second i c
@@ -154,7 +155,7 @@ module _ {first second : List ℕ} (J : Joinable first second) where
   mark-second i c l k =
       mark-in-row (joinedSheet first second) i (choresOf first + c) (omega (arith, joined-chores))
       ∙ ap (λ row. getD row (choresOf first + c) 0) (joined-row i l)
-      ∙ ap (λ m. getD (rowOf first i ++ rowOf second i) (m + c) 0) (sym (row-long (row₁ i l)))
+      ∙ ap (λ m. getD (rowOf first i ++ rowOf second i) (m + c) 0) (sym (row-long (first-row l refl)))
       ∙ getD-append-add (rowOf first i) (rowOf second i) c 0
       ∙ sym (mark-in-row second i c k)
 

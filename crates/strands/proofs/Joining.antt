@@ -19,7 +19,7 @@ use Rattle.model.specs.Promises.{joinedOver, SheetsJoined}
 use Rattle.sheet.specs.Valid.{Joinable}
 use Rattle.sheet.specs.Readers.{RowInSheet}
 use Rattle.sheet.proofs.Marks.{row-inside, row-long}
-use Rattle.sheet.proofs.Strands.{header-long, rows-long, joined-long, joined-taken}
+use Rattle.sheet.proofs.Strands.{first-row, second-row, header-long, rows-long, joined-long, joined-taken}
 use Rattle.strands.specs.Parts.{Stretch, Room}
 use Rattle.strands.proofs.Refusals.{join-joinable}
 
@@ -91,10 +91,10 @@ module _ {first second joined joined′ : List ℕ} {at i m₁ m₂ : ℕ} (T : 
   J = T .lent .joinable
 
   row₁ : RowInSheet first m₁ i
-  row₁ = record { long = J .validFirst .long; chores = T .chores₁; agent = T .agent }
+  row₁ = first-row J (T .agent) (T .chores₁)
 
   row₂ : RowInSheet second m₂ i
-  row₂ = record { long = J .validSecond .long; chores = T .chores₂; agent = omega (arith, J .agents, T .agent) }
+  row₂ = second-row J (T .agent) (T .chores₂)
 
   -- there is room for the agent's row
   pub row-room : at + (m₁ + m₂) ≤ length joined

@@ -4,6 +4,7 @@ use Prim.Native.Nat.{ℕ, _-_, _<_}
 use mathlib.Core.List.{List, [], _++_}
 use mathlib.Core.Path.{_≡_, refl, sym, ap, subst, _∙_}
 use native.Mathlib.Omega.{arith}
+use lib.ListN.{length}
 use lib.Seq.{take-at, drop-at}
 use borrow.Author.Tests.{eq-eqb, ne-eqb}
 use Rattle.finite.proofs.Tests.{by-test, by-cond}
@@ -14,7 +15,7 @@ use Rattle.model.specs.Promises.{shownMarks, MarksShown}
 use Rattle.sheet.specs.Valid.{Valid, Joinable}
 use Rattle.sheet.specs.Readers.{RowInSheet}
 use Rattle.sheet.proofs.Marks.{row-long}
-use Rattle.sheet.proofs.Strands.{joined-row}
+use Rattle.sheet.proofs.Strands.{first-row, joined-row}
 use Rattle.strands.proofs.Refusals.{show-joinable, show-person}
 
 -- the sheet that holds a chore is one of two that agree
@@ -64,10 +65,10 @@ module _ (first second : List ℕ) (person chore : ℕ) where
     strand-on-joined =
         let i = person - 1 in
         let row : rowOf (joinedSheet first second) i ≡ rowOf first i ++ rowOf second i = joined-row J i agent-there in
-        let inside : RowInSheet first (choresOf first) i = record { long = J .validFirst .long; chores = refl; agent = agent-there } in
+        let long : length (rowOf first i) ≡ choresOf first = row-long (first-row J agent-there refl) in
         by-test (inFirst first chore)
-        (λ e. rw (e, row, take-at (rowOf first i) (rowOf second i) _ (row-long inside)))
-        (λ e. rw (e, row, drop-at (rowOf first i) (rowOf second i) _ (row-long inside)))
+        (λ e. rw (e, row, take-at (rowOf first i) (rowOf second i) _ long))
+        (λ e. rw (e, row, drop-at (rowOf first i) (rowOf second i) _ long))
 
     pub shown : {k : ℕ} {held marks : List ℕ} → k ≡ showRefusal first second person chore → held ≡ strandSheet first second chore → marks ≡ rowOf held (person - 1) → MarksShown first second person chore k marks
     unfolding shownMarks strandMarks
