@@ -16,8 +16,11 @@ show-refusal-requires c κs = search needs
 returns : tie.Need-returns
 returns c = not-told _ _ _ _ (c .before .show-refusal .ensures) (c .if1 .taken)
 
+abbrev start : tie.Else1 → tie.Start
+start c = c .before .before .before .before
+
 -- nothing is refused
-right : (c : tie.Else1) → showRefusal (c .before .before .before .before .args .first .now) (c .before .before .before .before .args .second .now) (c .before .before .before .before .args .person) (c .before .before .before .before .args .chore) ≡ 0
+right : (c : tie.Else1) → showRefusal (start c .args .first .now) (start c .args .second .now) (start c .args .person) (start c .args .chore) ≡ 0
 right c = sym (c .before .show-refusal .ensures) ∙ c .if1 .left
 
 strand-sheet-requires : tie.Need-strand-sheet-requires

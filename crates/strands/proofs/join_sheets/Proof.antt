@@ -17,11 +17,14 @@ join-refusal-requires c κs = search needs
 returns : tie.Need-returns
 returns c = not-joined _ _ _ (c .before .join-refusal .ensures) (c .if1 .taken)
 
+abbrev start : tie.Else1 → tie.Start
+start c = c .before .before .before .before .before
+
 -- nothing is refused
-right : (c : tie.Else1) → joinRefusal (c .before .before .before .before .before .args .first .now) (c .before .before .before .before .before .args .second .now) (length (c .before .before .before .before .before .args .joined .now)) ≡ 0
+right : (c : tie.Else1) → joinRefusal (start c .args .first .now) (start c .args .second .now) (length (start c .args .joined .now)) ≡ 0
 right c = sym (c .before .join-refusal .ensures) ∙ c .if1 .left
 
-lent : (c : tie.Else1) → Room (c .before .before .before .before .before .args .first .now) (c .before .before .before .before .before .args .second .now) (c .before .before .before .before .before .args .joined .now)
+lent : (c : tie.Else1) → Room (start c .args .first .now) (start c .args .second .now) (start c .args .joined .now)
 lent c = record { joinable = join-joinable _ _ _ (right c); room = join-room _ _ _ (right c) }
 
 joined-chores-requires : tie.Need-joined-chores-requires

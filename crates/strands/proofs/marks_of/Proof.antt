@@ -19,9 +19,12 @@ part-result-end c = search needs
 returns : tie.Need-returns
 returns c = not-shown _ _ _ _ (c .before .before .before .before .pre) (c .before .if1 .taken)
 
+abbrev start : tie.Else1 → tie.Start
+start c = c .before .before .before
+
 -- nothing is refused
-right : (c : tie.Else1) → showRefusal (c .before .before .before .args .first .now) (c .before .before .before .args .second .now) (c .before .before .before .args .person) (c .before .before .before .args .chore) ≡ 0
-right c = sym (c .before .before .before .pre) ∙ c .if1 .left
+right : (c : tie.Else1) → showRefusal (start c .args .first .now) (start c .args .second .now) (start c .args .person) (start c .args .chore) ≡ 0
+right c = sym (start c .pre) ∙ c .if1 .left
 
 strand-sheet-requires : tie.Need-strand-sheet-requires
 strand-sheet-requires c κs = show-joinable _ _ _ _ (right c) .validFirst .header

@@ -18,8 +18,11 @@ returns : tie.Need-returns
 unfolding showRefusal
 returns c = or-else-stop _ (c .before .strands-refusal .ensures) (c .if1 .taken)
 
+abbrev start : tie.Else1 → tie.Start
+start c = c .before .before .before .before
+
 -- the strands can be joined, so that what is read of them is there
-fit : (c : tie.Else1) → Joinable (c .before .before .before .before .args .first .now) (c .before .before .before .before .args .second .now)
+fit : (c : tie.Else1) → Joinable (start c .args .first .now) (start c .args .second .now)
 fit c = joinable _ _ (sym (c .before .strands-refusal .ensures) ∙ c .if1 .left)
 
 agents-requires : tie.Need-agents-requires
@@ -43,8 +46,11 @@ when-requires-2 c κs = search needs
 or-else-requires : tie.Need-or-else-requires
 or-else-requires c κs = search needs
 
+abbrev passed : tie.After-or-else → tie.Else1
+passed c = c .before .before .before .before .before .before .before
+
 -- the answer where the strands can be joined
-there : (c : tie.After-or-else) → c .or-else .result ≡ 9 when outOfRange (agentsOf (c .before .before .before .before .before .before .before .before .before .before .before .args .first .now)) (c .before .before .before .before .before .before .before .before .before .before .before .args .person) orElse 9 when outOfRange (joinedChores (c .before .before .before .before .before .before .before .before .before .before .before .args .first .now) (c .before .before .before .before .before .before .before .before .before .before .before .args .second .now)) (c .before .before .before .before .before .before .before .before .before .before .before .args .chore)
+there : (c : tie.After-or-else) → c .or-else .result ≡ 9 when outOfRange (agentsOf (start (passed c) .args .first .now)) (start (passed c) .args .person) orElse 9 when outOfRange (joinedChores (start (passed c) .args .first .now) (start (passed c) .args .second .now)) (start (passed c) .args .chore)
 there c =
     let chore = c .before .before in
     let person = chore .before .before .before in
@@ -52,7 +58,7 @@ there c =
 
 returns-2 : tie.Need-returns-2
 unfolding showRefusal
-returns-2 c = or-else-go (c .before .before .before .before .before .before .before .before .strands-refusal .ensures) (c .before .before .before .before .before .before .before .if1 .left) (there c)
+returns-2 c = or-else-go (passed c .before .strands-refusal .ensures) (passed c .if1 .left) (there c)
 
 pub show-refusal-spec : {M : Type 1} → statement M
 show-refusal-spec =

@@ -28,17 +28,24 @@ chores-requires-2 c κs = c .before .before .before .before .before .pre .joinab
 loop-holds : tie.Need-loop-holds Inv-loop μ-loop
 loop-holds c = write-zero _ _ _
 
-turn : (c : tie.In-loop Inv-loop μ-loop) → Turn (c .before .before .before .before .before .before .before .before .args .first .now) (c .before .before .before .before .before .before .before .before .args .second .now) (c .before .before .before .before .before .before .before .before .args .joined .now) (c .before .loop .joined) (c .before .loop .at) (c .before .loop .i) (c .before .before .before .chores .result) (c .before .before .chores2 .result)
+abbrev start : tie.In-loop Inv-loop μ-loop → tie.Start Inv-loop μ-loop
+start c = c .before .before .before .before .before .before .before .before
+
+-- one turn: the agent is there, and the list holds the rows before it
+turn : (c : tie.In-loop Inv-loop μ-loop) → Turn (start c .args .first .now) (start c .args .second .now) (start c .args .joined .now) (c .before .loop .joined) (c .before .loop .at) (c .before .loop .i) (c .before .before .before .chores .result) (c .before .before .chores2 .result)
 turn c =
     let chores = c .before .before in
-    let start = chores .before .before .before .before .before .before in
     record {
-      lent = start .pre;
+      lent = start c .pre;
       written = c .before .loop .inv;
       agent = omega (arith, c .loop-test .taken, chores .before .before .agents .ensures .is);
       chores₁ = chores .before .chores .ensures .is;
       chores₂ = chores .chores2 .ensures .is;
     }
+
+-- and it is still there when both rows are copied
+abbrev begun : tie.After-slice-known3 Inv-loop μ-loop → tie.In-loop Inv-loop μ-loop
+begun c = c .before .before .before .before .before .before .before .before .before .before
 
 row-start-requires : tie.Need-row-start-requires Inv-loop μ-loop
 row-start-requires c κs = let l = stretch₁ (turn c) refl .inside in omega arith
@@ -59,10 +66,10 @@ copy-marks-requires-2 c κs =
     stretch₂ (turn (c .before .before .before .before .before .before .before)) (c .before .before .before .before .before .before .row-start .ensures) (c .before .row-start2 .ensures) (c .before .before .before .before .copy-marks .ensures)
 
 add-at : tie.Need-add-at Inv-loop μ-loop
-add-at c = let l = row-room (turn (c .before .before .before .before .before .before .before .before .before .before)) in omega arith
+add-at c = let l = row-room (turn (begun c)) in omega arith
 
 add-at-2 : tie.Need-add-at-2 Inv-loop μ-loop
-add-at-2 c = let l = row-room (turn (c .before .before .before .before .before .before .before .before .before .before)) in omega arith
+add-at-2 c = let l = row-room (turn (begun c)) in omega arith
 
 add-i : tie.Need-add-i Inv-loop μ-loop
 add-i c = search needs
@@ -74,7 +81,7 @@ loop-again : tie.Need-loop-again Inv-loop μ-loop
 loop-again c =
     let copied = c .before .before in
     let first = copied .before .before .before .before .before in
-    write-next (turn (c .before .before .before .before .before .before .before .before .before .before)) (first .before .before .row-start .ensures) (copied .before .before .row-start2 .ensures) (first .copy-marks .ensures) (copied .copy-marks2 .ensures)
+    write-next (turn (begun c)) (first .before .before .row-start .ensures) (copied .before .before .row-start2 .ensures) (first .copy-marks .ensures) (copied .copy-marks2 .ensures)
 
 same-length : tie.Need-same-length Inv-loop μ-loop
 same-length c = write-sized (c .before .loop .inv)
