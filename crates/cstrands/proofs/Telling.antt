@@ -19,21 +19,16 @@ use Rattle.model.specs.Verdicts.{unlessRefused}
 use Rattle.model.specs.Promises.{joinedOver, SheetsJoined}
 use Rattle.sheet.proofs.Marks.{row-inside}
 use Rattle.strands.proofs.Showing.{held-row, shown}
+use Rattle.cmodel.specs.Numbers.{refusalIn}
 use Rattle.cmodel.specs.Promises.{JoinedInC, ShownInC}
-use Rattle.cstrands.specs.Telling.{refusalOf, sizeAfter, ToldSize}
+use Rattle.cstrands.specs.Telling.{sizeAfter, ToldSize}
 
 -- an answer tells its refusal number, and the size where there is none
 module _ (k size : ℕ) where
-  refusal-told : (answer : Join) → joinReply answer ≡ unlessRefused k (joined size) → refusalOf answer ≡ k
+  refusal-told : (answer : Join) → joinReply answer ≡ unlessRefused k (joined size) → refusalIn (joinReply answer) ≡ k
   unfolding unlessRefused
-  refusal-told (Join.Refused r) e =
-      by-test (eqb k 0)
-      (λ t. let e′ : refused r ≡ joined size = rw t at e in let z : _≡_ {A = ℕ} 0 1 = cc in absurd (omega arith))
-      (λ t. let e′ : refused r ≡ refused k = rw t at e in cc)
-  refusal-told (Join.Joined s) e =
-      by-test (eqb k 0)
-      (λ t. sym (eqb-true k 0 t))
-      (λ t. let e′ : joined s ≡ refused k = rw t at e in let z : _≡_ {A = ℕ} 0 1 = cc in absurd (omega arith))
+  refusal-told answer e =
+      ap refusalIn e ∙ by-test (eqb k 0) (λ t. rw t (sym (eqb-true k 0 t))) (λ t. rw t refl)
 
   size-told : (answer : Join) (before : ℕ) → joinReply answer ≡ unlessRefused k (joined size) → sizeAfter answer before ≡ cond (eqb k 0) size before
   unfolding unlessRefused

@@ -2,17 +2,14 @@
 use Prim.Native.Nat.{ℕ}
 use mathlib.Core.Path.{_≡_}
 use Rattle.model.specs.declared.Join.{Join}
+use Rattle.model.specs.Replies.{joinReply}
+use Rattle.cmodel.specs.Numbers.{refusalIn}
 
--- the refusal number or 0
-abbrev pub refusalOf : Join → ℕ
-refusalOf (Join.Refused k) = k
-refusalOf (Join.Joined size) = 0
-
--- what memory that held `before` holds then: the size, or with a refusal what it held
+-- what memory that held `before` holds when the answer is told: the size, or with a refusal what it held
 abbrev pub sizeAfter : Join → ℕ → ℕ
 sizeAfter (Join.Refused k) before = before
 sizeAfter (Join.Joined size) before = size
 
 pub record ToldSize (answer : Join) (written written′ r : ℕ) : Type 0 where
-  pub returned : r ≡ refusalOf answer
+  pub returned : r ≡ refusalIn (joinReply answer)
   pub sizeAtExit : written′ ≡ sizeAfter answer written

@@ -3,13 +3,13 @@
 -- Assumes nothing.
 use Prim.Native.Nat.{ℕ, zero, suc, _+_, _*_, _-_, _≤_, _<_}
 use mathlib.Core.Bool.{true}
-use mathlib.Core.List.{List, [], _++_, append-assoc, append-nil}
+use mathlib.Core.List.{List, [], _∷_, _++_, append-assoc, append-nil}
 use mathlib.Core.Path.{_≡_, refl, sym, ap, ap₂, _∙_}
 use native.Mathlib.Nat.{le-refl}
 use native.Mathlib.Omega.{arith}
 use lib.Dec.{eqb}
-use lib.ListN.{length, getD, take, drop, length-append, length-drop, List·getD-append}
-use lib.Seq.{length-take-le, take-at, drop-at, getD-take, getD-drop, getD-append-add}
+use lib.ListN.{length, getD, take, drop, length-append, List·getD-append}
+use lib.Seq.{take-at, drop-at, getD-append-add, drop-cons}
 use borrow.Author.Tests.{eqb-true, ltb-false, not-false}
 use Rattle.finite.specs.Lists.{wordAt}
 use Rattle.finite.proofs.Tests.{and-elim}
@@ -43,6 +43,11 @@ joinable first second e =
       fits = ltb-false maxChores (joinedChores first second) (when-none _ 1 (same .1));
     }
 
+-- both weights of a sheet, byte by byte
+pub weight-bytes : (s : List ℕ) → headerSize ≤ length s → take 4 (drop 2 s) ≡ getD s 2 0 ∷ getD s 3 0 ∷ getD s 4 0 ∷ getD s 5 0 ∷ []
+weight-bytes s l =
+    rw (drop-cons s 2 0 (omega arith), drop-cons s 3 0 (omega arith), drop-cons s 4 0 (omega arith), drop-cons s 5 0 (omega arith))
+
 -- where a row stands among others
 record Among (first second : List ℕ) (k i : ℕ) : Type 0 where
   rest : List ℕ
@@ -71,12 +76,12 @@ module _ {first second : List ℕ} (J : Joinable first second) where
 
   -- the lengths of its parts, and its own
 
-  weights-long : length (take 4 (drop 2 first)) ≡ 4
-  weights-long = length-take-le 4 (drop 2 first) (simp length-drop (omega (arith, J .validFirst .header)))
+  weights : take 4 (drop 2 first) ≡ getD first 2 0 ∷ getD first 3 0 ∷ getD first 4 0 ∷ getD first 5 0 ∷ []
+  weights = weight-bytes first (J .validFirst .header)
 
   pub header-long : length (joinedHeader first second) ≡ headerSize
   unfolding joinedHeader
-  header-long = omega (arith, weights-long)
+  header-long = rw weights refl
 
   joined-row-long : (i : ℕ) → i < agentsOf first → length (joinedRow first second i) ≡ joinedChores first second
   unfolding joinedRow joinedChores
@@ -105,21 +110,13 @@ module _ {first second : List ℕ} (J : Joinable first second) where
   unfolding choresOf joinedSheet joinedHeader
   joined-chores = refl
 
-  weight-byte : (k : ℕ) → k < 4 → getD (joinedSheet first second) (suc (suc k)) 0 ≡ getD first (suc (suc k)) 0
-  unfolding joinedSheet joinedHeader
-  weight-byte k l =
-      List·getD-append (take 4 (drop 2 first)) (joinedRows first second (agentsOf first)) 0 k (rw weights-long l)
-      ∙ getD-take 4 (drop 2 first) k 0 l
-      ∙ getD-drop 2 first k 0
-      ∙ ap (λ at. getD first at 0) (omega arith)
-
   pub joined-easy : easyWeight (joinedSheet first second) ≡ easyWeight first
-  unfolding easyWeight wordAt
-  joined-easy = ap₂ (λ high low. 256 * high + low) (weight-byte 0 (omega arith)) (weight-byte 1 (omega arith))
+  unfolding easyWeight wordAt joinedSheet joinedHeader
+  joined-easy = rw weights refl
 
   pub joined-difficult : difficultWeight (joinedSheet first second) ≡ difficultWeight first
-  unfolding difficultWeight wordAt
-  joined-difficult = ap₂ (λ high low. 256 * high + low) (weight-byte 2 (omega arith)) (weight-byte 3 (omega arith))
+  unfolding difficultWeight wordAt joinedSheet joinedHeader
+  joined-difficult = rw weights refl
 
   -- its rows
 

@@ -1,13 +1,13 @@
 -- The joined sheet as code writes it: a header, and rows one after the other.
 -- Assumes nothing.
 use Prim.Native.Nat.{ℕ, _+_, _*_, _≤_, _<_}
-use mathlib.Core.List.{List, [], _∷_, _++_, append-assoc}
+use mathlib.Core.List.{List, _∷_, _++_, append-assoc}
 use mathlib.Core.Path.{_≡_, refl, sym, ap, _∙_}
 use native.Mathlib.Nat.{mul-le-mul-right}
 use native.Mathlib.Numerals.{add-one}
 use native.Mathlib.Omega.{arith}
 use lib.ListN.{length, take, drop, getD, set, length-append, length-drop}
-use lib.Seq.{sets, sets-eq, length-sets, paste, paste-zero, paste-suc, length-paste, length-take-le, getD-drop, drop-cons}
+use lib.Seq.{sets, sets-eq, length-sets, paste, paste-zero, paste-suc, length-paste, length-take-le, getD-drop}
 use borrow.Author.Tests.{eq-eqb, ne-eqb}
 use Rattle.finite.proofs.Lists.{sets-append}
 use Rattle.model.specs.declared.Join.{Join}
@@ -59,11 +59,6 @@ module _ {sheet : List ℕ} {start count : ℕ} {joined : List ℕ} {at : ℕ} (
         C .made
         ∙ ap (paste joined at (drop start sheet)) all
         ∙ sym (sets-eq (take count (drop start sheet)) joined at (omega (arith, S .room)) ∙ rw size)
-
--- both weights of a sheet, byte by byte
-pub weight-bytes : (s : List ℕ) → headerSize ≤ length s → take 4 (drop 2 s) ≡ getD s 2 0 ∷ getD s 3 0 ∷ getD s 4 0 ∷ getD s 5 0 ∷ []
-weight-bytes s l =
-    rw (drop-cons s 2 0 (omega arith), drop-cons s 3 0 (omega arith), drop-cons s 4 0 (omega arith), drop-cons s 5 0 (omega arith))
 
 -- the rows of the first i agents are written, and `at` is where they end
 pub record Writing (first second joined joined′ : List ℕ) (at i : ℕ) : Type 0 where

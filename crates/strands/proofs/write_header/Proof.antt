@@ -3,7 +3,7 @@ use native.Mathlib.Omega.{arith}
 use lib.ListN.{length-set}
 use borrow.Author.Needs.{needs}
 use Rattle.model.specs.Sheet.{agentsOf}
-use Rattle.strands.proofs.Joining.{weight-bytes}
+use Rattle.sheet.proofs.Strands.{weight-bytes}
 use Rattle.strands.proofs.write_header.Statement.{statement}
 use Rattle.strands.proofs.write_header.Tie as tie
 
