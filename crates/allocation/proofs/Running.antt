@@ -10,7 +10,7 @@ use Rattle.model.specs.Sheet.{agentsOf, choresOf, asRead}
 use Rattle.model.specs.MostMoves.{mostMoves, mostEver}
 use Rattle.model.specs.Algorithm.{State, hand, busy, done, action, step, next, after, Ends}
 use Rattle.model.specs.Record.{handsOver, nextMoves, movesIn}
-use Rattle.model.proofs.MostMoves.{most-at-4000}
+use Rattle.model.proofs.MostMoves.{most-at-limits}
 use Rattle.records.specs.Noted.{moveOf, Numbers, Noted, Holding}
 use Rattle.records.proofs.Holding.{noted-on}
 use Rattle.sheet.specs.Valid.{Valid}
@@ -29,7 +29,7 @@ use Rattle.steps.proofs.Ready.{reached-ready}
 
 -- the most moves of a share-out, in numbers
 pub most-moves : {s : List ℕ} → Valid s → mostMoves (agentsOf s) (choresOf s) ≤ mostEver
-most-moves {s} v = most-at-4000 (agentsOf s) (choresOf s) (v .agentsFit) (omega (arith, v .choresFit))
+most-moves {s} v = most-at-limits (agentsOf s) (choresOf s) (v .agentsFit) (omega (arith, v .choresFit))
 
 module _ {s : List ℕ} (v : Valid s) {owners prices groups entitled lent bytes : List ℕ} {moves cuts stage : ℕ} (R : Running s owners prices groups entitled lent bytes moves cuts stage) where
   abbrev st : State

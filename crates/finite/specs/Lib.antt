@@ -3,4 +3,5 @@ pub mod Search
 pub mod Lists
 pub mod Reach
 pub mod Bits
+pub mod Packed
 pub mod Moves

@@ -19,8 +19,5 @@ most-grows n m agents chores hn hm =
     let fewer : n - 1 ≤ agents - 1 = omega arith in
     mul-le-mul hn (mul-le-mul fewer hm)
 
-pub most-at-limits : (n m : ℕ) → n ≤ maxAgents → m ≤ maxChores → mostMoves n m ≤ 198400
+pub most-at-limits : (n m : ℕ) → n ≤ maxAgents → m ≤ maxChores → mostMoves n m ≤ mostEver
 most-at-limits n m hn hm = omega (arith, most-grows n m maxAgents maxChores hn hm, most-in-numbers)
-
-pub most-at-4000 : (n m : ℕ) → n ≤ maxAgents → m ≤ 4000 → mostMoves n m ≤ mostEver
-most-at-4000 n m hn hm = omega (arith, most-grows n m maxAgents 4000 hn hm, most-in-numbers)

@@ -6,7 +6,9 @@ use Prim.Native.String.{String}
 use mathlib.Core.Bool.{true}
 use mathlib.Core.List.{List, [], _∷_, _++_}
 use mathlib.Core.Path.{_≡_}
-use lib.ListN.{length}
+use lib.Dec.{eqb}
+use lib.ListN.{length, getD}
+use Rattle.finite.specs.Packed.{packed}
 use Rattle.model.specs.Instance.{ownerOf}
 use Rattle.model.specs.Sheet.{asMarked, asRead}
 use Rattle.model.specs.Fairness.{dominates, isAllocation}
@@ -17,28 +19,42 @@ use Rattle.model.specs.Refusals.{sheetRefusal, allocateRefusal, recorded
 use Rattle.model.specs.Replies.{Reply}
 use Rattle.model.specs.Verdicts.{listCheck, priceCheck}
 
+-- marks as document 01 writes them, `e` and `d`
 unfoldable pub marks : String → List ℕ
 marks S.[] = []
 marks (S._∷_ c t) = code c ∷ marks t
 
-unfoldable pub allMarks : List String → List ℕ
-allMarks [] = []
-allMarks (row ∷ rows) = marks row ++ allMarks rows
+-- `d`
+abbrev pub difficultLetter : ℕ
+difficultLetter = 0x64
 
-unfoldable pub firstRow : List String → List ℕ
-firstRow [] = []
-firstRow (row ∷ rows) = marks row
+-- a row of them "in the packed form"
+unfoldable pub row : String → List ℕ
+row text = packed (length (marks text)) (λ c. eqb (getD (marks text) c 0) difficultLetter)
+
+unfoldable pub allRows : List String → List ℕ
+allRows [] = []
+allRows (text ∷ texts) = row text ++ allRows texts
+
+unfoldable pub firstCount : List String → ℕ
+firstCount [] = 0
+firstCount (text ∷ texts) = length (marks text)
+
+-- the header of a sheet
+unfoldable pub header : ℕ → ℕ → ℕ → ℕ → List ℕ
+header n m a b = n ∷ m / 256 ∷ m % 256 ∷ a / 256 ∷ a % 256 ∷ b / 256 ∷ b % 256 ∷ []
 
 -- the bytes of a sheet: its weights, and a row of marks for each agent
 unfoldable pub sheet : ℕ → ℕ → List String → List ℕ
-sheet a b rows =
-    length rows ∷ length (firstRow rows) ∷ a / 256 ∷ a % 256 ∷ b / 256 ∷ b % 256 ∷ allMarks rows
+sheet a b texts = header (length texts) (firstCount texts) a b ++ allRows texts
 
 pub data Case : Type 0 where
   -- the share-out of a sheet: its owners, prices, moves and cuts
   shared-out : List ℕ → List ℕ → List ℕ → ℕ → ℕ → Case
   -- a sheet's refusal number, 0 where it is taken
   judged : List ℕ → ℕ → Case
+  -- a sheet's bytes
+  spelled : List ℕ → List ℕ → Case
   -- the refusal number of a sheet's share-out, with lent owners, prices and scratch of so many entries
   lent : List ℕ → ℕ → ℕ → ℕ → ℕ → Case
   -- the record of a sheet's share-out
@@ -86,6 +102,7 @@ pub record Shows (s owners other : List ℕ) : Type 0 where
 unfoldable pub Meets : Case → Type 0
 Meets (shared-out s owners prices moves cuts) = Shares s owners prices moves cuts
 Meets (judged s k) = sheetRefusal s ≡ k
+Meets (spelled s bytes) = s ≡ bytes
 Meets (lent s owners prices scratch k) = allocateRefusal s owners prices scratch ≡ k
 Meets (recorded s bytes) = Records s bytes
 Meets (lent-record s owners prices scratch moves bytes k) = recordedRefusal s owners prices scratch moves bytes ≡ k

@@ -1,13 +1,13 @@
--- The limits of document 01, each in one place.
+-- The limits of document 01, and of document 02 where a request moved them, each in one place.
 use Prim.Native.Nat.{ℕ}
 
 -- "the number of people n, 1 to 32"
 abbrev pub maxAgents : ℕ
 maxAgents = 32
 
--- "the number of reels m, 0 to 200"
+-- document 02, request 5: "The reel count becomes two bytes, high byte first, up to 4,000"
 abbrev pub maxChores : ℕ
-maxChores = 200
+maxChores = 4000
 
 -- "1 ≤ a < b ≤ 1,000"
 abbrev pub maxWeight : ℕ
@@ -29,6 +29,6 @@ maxSheets = 16
 abbrev pub maxBook : ℕ
 maxBook = 65535
 
--- "These lists need 3,200 entries"
+-- document 02, request 5: "A book's long lists need 64,000 entries"
 abbrev pub bookEntries : ℕ
-bookEntries = 3200
+bookEntries = 64000

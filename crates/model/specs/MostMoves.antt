@@ -10,6 +10,6 @@ module _ (agents chores : ℕ) where
   unfoldable pub mostMoves : ℕ
   mostMoves = agents * roundMoves
 
--- With 32 agents, and more chores than there may be yet: 4,000. Counters hold it.
+-- With 32 agents and 4,000 chores. Counters hold it.
 abbrev pub mostEver : ℕ
 mostEver = 3968000

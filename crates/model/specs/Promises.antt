@@ -13,7 +13,7 @@ use Rattle.model.specs.declared.PriceVerdict.{PriceVerdict}
 use Rattle.model.specs.declared.BookResult.{BookResult}
 use Rattle.model.specs.Instance.{Instance, ownerOf}
 use Rattle.model.specs.Sheet.{agentsOf, choresOf, asMarked, asRead}
-use Rattle.model.specs.Strands.{joinedSheet, strandMarks, joinedMarks}
+use Rattle.model.specs.Strands.{joinedSheet, strandMarks, OnJoined}
 use Rattle.model.specs.Contents.{sheetCount, sheetOf}
 use Rattle.model.specs.Fairness.{ef1, dominates, isAllocation}
 use Rattle.model.specs.Algorithm.{State, lacking, opening, after, Ends}
@@ -160,7 +160,7 @@ pub record MarksShown (first second : List ℕ) (person chore refusal : ℕ) (ma
   pub answer : refusal ≡ showRefusal first second person chore
   pub part : marks ≡ shownMarks first second person chore
   -- they are the joined sheet's marks of that person for that strand
-  pub onJoined : refusal ≡ 0 → marks ≡ joinedMarks first second person chore
+  pub onJoined : refusal ≡ 0 → OnJoined first second person chore marks
 
 -- The part of the book that a lookup hands back: "its bytes are handed back as that stretch of the book", and no bytes where it is refused,
 -- since "the number is all that is returned".

@@ -1,12 +1,13 @@
 -- Document 01, "Numbers for what is turned down", and document 02: the number of each call's refusal, 0 where it is not turned down.
-use Prim.Native.Nat.{ℕ, _+_, _*_}
+use Prim.Native.Nat.{ℕ, _+_, _*_, _-_}
 use mathlib.Core.Bool.{Bool, cond, not, _&&_, _||_}
 use mathlib.Core.List.{List}
 use lib.Dec.{eqb, leb, ltb}
 use lib.ListN.{length, getD}
 use Rattle.finite.specs.Search.{allBelow, anyBelow}
+use Rattle.finite.specs.Packed.{bitAt, bytesFor}
 use Rattle.model.specs.Limits.{maxAgents, maxChores, maxWeight, maxPrice, scratchSize, bookEntries}
-use Rattle.model.specs.Sheet.{agentsOf, choresOf, easyWeight, difficultWeight, headerSize, sheetLength, easyMark, difficultMark}
+use Rattle.model.specs.Sheet.{agentsOf, choresOf, easyWeight, difficultWeight, headerSize, rowOf, sheetLength}
 use Rattle.model.specs.Strands.{agree, joinedChores, joinedSheet}
 use Rattle.model.specs.Contents.{sheetCount, bookFits}
 use Rattle.model.specs.Fairness.{ownersInRange}
@@ -30,35 +31,35 @@ outOfRange limit k = eqb k 0 || ltb limit k
 abbrev pub weightsFault : ℕ → ℕ → Bool
 weightsFault a b = eqb a 0 || (leb b a || ltb maxWeight b)
 
--- a byte is one of the two marks
-unfoldable pub isMark : ℕ → Bool
-isMark byte = eqb byte easyMark || eqb byte difficultMark
+-- "bits after the last reel are 0": one of a row of m marks is not
+unfoldable pub setAfter : ℕ → List ℕ → Bool
+setAfter m row = anyBelow (8 * bytesFor m - m) (λ k. bitAt row (m + k))
 
--- "a mark other than `e` and `d`", among the first count
-abbrev pub marksFault : List ℕ → ℕ → Bool
-marksFault s count = anyBelow count (λ k. not (isMark (getD s (headerSize + k) 0)))
+-- "a set bit after the last reel", in some agent's row
+unfoldable pub marksFault : List ℕ → Bool
+marksFault s = anyBelow (agentsOf s) (λ i. setAfter (choresOf s) (rowOf s i))
 
 -- what the header's numbers alone decide
 unfoldable pub headerRefusal : ℕ → ℕ → ℕ → ℕ → ℕ
 headerRefusal n m a b =
     -- "n is 0 or above 32"
     1 when outOfRange maxAgents n
-    -- "m is above 200"
+    -- "Number 2 now means more than 4,000 reels"
     orElse 2 when ltb maxChores m
     -- "a is 0, b ≤ a, or b above 1,000"
     orElse 3 when weightsFault a b
 
--- "Order for a sheet: 5 for fewer than 6 bytes, 1, 2, 3, 5, 4"
+-- "Order for a sheet: 5 for fewer than" 7 "bytes, 1, 2, 3, 5, 4"
 unfoldable pub sheetRefusal : List ℕ → ℕ
 sheetRefusal s =
-    -- "sheet shorter than 6 bytes"
+    -- "5 the new lengths": shorter than the header
     5 when ltb (length s) headerSize
     -- 1, 2, 3
     orElse headerRefusal (agentsOf s) (choresOf s) (easyWeight s) (difficultWeight s)
-    -- "or its length isn't 6 + n × m"
+    -- or its length isn't "7 + n × (m divided by 8, rounded up)"
     orElse 5 when not (eqb (length s) (sheetLength s))
-    -- "a mark other than `e` and `d`"
-    orElse 4 when marksFault s (agentsOf s * choresOf s)
+    -- "4 a set bit after the last reel"
+    orElse 4 when marksFault s
 
 -- the list of owners, for n agents and m chores
 unfoldable pub ownersRefusal : ℕ → ℕ → List ℕ → ℕ

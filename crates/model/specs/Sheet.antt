@@ -1,62 +1,60 @@
--- Document 01, "The sheet": its bytes, and the two readings of its marks.
+-- Document 01, "The sheet", with the bytes of document 02, request 5: a header, rows of marks, and the two readings of them.
 use Prim.Native.Nat.{ℕ, _+_, _*_}
 use mathlib.Core.Bool.{Bool, not, _||_}
 use mathlib.Core.List.{List}
-use lib.Dec.{eqb}
 use lib.ListN.{getD, take, drop}
+use Rattle.finite.specs.Sums.{countTo}
 use Rattle.finite.specs.Search.{allBelow}
 use Rattle.finite.specs.Lists.{wordAt}
+use Rattle.finite.specs.Packed.{bitAt, bytesFor}
 use Rattle.model.specs.Instance.{Instance}
 
 -- "Byte 0 is the number of people n"
 unfoldable pub agentsOf : List ℕ → ℕ
 agentsOf s = getD s 0 0
 
--- "Byte 1 is the number of reels m"
+-- "The reel count becomes two bytes, high byte first"
 unfoldable pub choresOf : List ℕ → ℕ
-choresOf s = getD s 1 0
+choresOf s = wordAt s 1
 
--- "Bytes 2 and 3 are the easy weight a .. high byte first"
+-- "the easy weight a .. high byte first"; "so the header has 7 bytes"
 unfoldable pub easyWeight : List ℕ → ℕ
-easyWeight s = wordAt s 2
+easyWeight s = wordAt s 3
 
--- "bytes 4 and 5 the difficult weight b, high byte first"
+-- "the difficult weight b, high byte first"
 unfoldable pub difficultWeight : List ℕ → ℕ
-difficultWeight s = wordAt s 4
+difficultWeight s = wordAt s 5
 
--- the bytes of these four numbers, before the marks
+-- the bytes of these four numbers, before the marks: "the header has 7 bytes"
 abbrev pub headerSize : ℕ
-headerSize = 6
+headerSize = 7
 
--- "Then n rows of m marks, person by person": where agent i's row starts, its marks, and the one for chore c
+-- the bytes of a row: "m divided by 8, rounded up"
+abbrev pub rowSize : List ℕ → ℕ
+rowSize s = bytesFor (choresOf s)
+
+-- "Then n rows .., person by person", and "each row starts on a fresh byte": where agent i's row starts, and its bytes
 abbrev pub rowStart : List ℕ → ℕ → ℕ
-rowStart s i = headerSize + i * choresOf s
+rowStart s i = headerSize + i * rowSize s
 
 unfoldable pub rowOf : List ℕ → ℕ → List ℕ
-rowOf s i = take (choresOf s) (drop (rowStart s i) s)
+rowOf s i = take (rowSize s) (drop (rowStart s i) s)
 
-unfoldable pub markAt : List ℕ → ℕ → ℕ → ℕ
-markAt s i c = getD s (rowStart s i + c) 0
-
--- "`e` (hexadecimal 65)"
-abbrev pub easyMark : ℕ
-easyMark = 0x65
-
--- "`d` (hexadecimal 64)"
-abbrev pub difficultMark : ℕ
-difficultMark = 0x64
-
--- "`d` .. costs b": agent i marked chore c difficult. Every reading of a mark goes by this one.
+-- "Marks shrink to one bit, 1 for difficult, high bit first": agent i marked chore c difficult. Every reading of a mark goes by this one.
 unfoldable pub isDifficult : List ℕ → ℕ → ℕ → Bool
-isDifficult s i c = eqb (markAt s i c) difficultMark
+isDifficult s i c = bitAt (rowOf s i) c
 
--- "`e` .. costs a": a sheet with any other mark is turned down, so what is not difficult is easy
+-- a mark has one bit, so what is not difficult is easy
 unfoldable pub marksEasy : List ℕ → ℕ → ℕ → Bool
 marksEasy s i c = not (isDifficult s i c)
 
--- "The length is 6 + n × m"
+-- "The length is 7 + n × (m divided by 8, rounded up)."
 unfoldable pub sheetLength : List ℕ → ℕ
-sheetLength s = headerSize + agentsOf s * choresOf s
+sheetLength s = headerSize + agentsOf s * rowSize s
+
+-- "The number of difficult marks in a row"
+unfoldable pub difficultMarks : List ℕ → ℕ → ℕ
+difficultMarks s i = countTo (choresOf s) (isDifficult s i)
 
 -- agent i's row holds difficult marks only
 unfoldable pub allDifficult : List ℕ → ℕ → Bool

@@ -1,12 +1,12 @@
 -- The cases of document 01 with a star, and more where no starred one notices a wrong definition. The theorem `starred` (proofs/Starred.antt)
 -- says that the definitions meet each of them.
 use Prim.Native.Nat.{ℕ}
-use mathlib.Core.List.{List, [], _∷_}
+use mathlib.Core.List.{List, [], _∷_, _++_}
 use lib.ListN.{replicate}
-use Rattle.model.specs.Sheet.{easyMark}
+use Rattle.finite.specs.Packed.{bytesFor}
 use Rattle.model.specs.Strands.{joinedSheet}
 use Rattle.model.specs.Replies.{holds, unfair, wasteful, offPrice, accepted}
-use Rattle.model.specs.Cases.{sheet, marks, Case, shared-out, judged, lent, recorded, lent-record, joins, lent-join, marked, asked, listed, shown, priced}
+use Rattle.model.specs.Cases.{header, sheet, row, Case, shared-out, judged, spelled, lent, recorded, lent-record, joins, lent-join, marked, asked, listed, shown, priced}
 
 unfoldable pub sheetC : List ℕ
 sheetC = sheet 1 3 ("eeeee" ∷ "dddde" ∷ [])
@@ -28,20 +28,28 @@ strand1 = sheet 1 3 ("dd" ∷ "ed" ∷ [])
 unfoldable pub strand2 : List ℕ
 strand2 = sheet 1 3 ("ede" ∷ "dee" ∷ [])
 
+-- a strand whose rows fill a byte each
+unfoldable pub eight : List ℕ
+eight = sheet 1 3 ("edededed" ∷ "ddddeeee" ∷ [])
+
 -- two chores that both agents find easy
 unfoldable pub twoEasy : List ℕ
 twoEasy = sheet 1 2 ("ee" ∷ "ee" ∷ [])
 
 -- n agents and one chore, easy for each; one agent and m chores, easy for it
 unfoldable pub agents : ℕ → List ℕ
-agents n = n ∷ 1 ∷ 0 ∷ 1 ∷ 0 ∷ 2 ∷ replicate n easyMark
+agents n = header n 1 1 2 ++ replicate n 0
 
 unfoldable pub chores : ℕ → List ℕ
-chores m = 1 ∷ m ∷ 0 ∷ 1 ∷ 0 ∷ 2 ∷ replicate m easyMark
+chores m = header 1 m 1 2 ++ replicate (bytesFor m) 0
 
--- the header of a sheet with 33 agents and 201 chores: two rules broken
+-- the header of a sheet with 33 agents and 4,001 chores: two rules broken
 unfoldable pub tooMany : List ℕ
-tooMany = 33 ∷ 201 ∷ 0 ∷ 1 ∷ 0 ∷ 2 ∷ []
+tooMany = header 33 4001 1 2
+
+-- two agents and m chores, with these bytes for their rows
+unfoldable pub bytes : ℕ → List ℕ → List ℕ
+bytes m rows = header 2 m 1 2 ++ rows
 
 unfoldable pub table : List Case
 table =
@@ -77,15 +85,30 @@ table =
     ∷ priced sheetC (2 ∷ 2 ∷ 1 ∷ 1 ∷ 2 ∷ []) (3 ∷ 3 ∷ 3 ∷ 3 ∷ 3 ∷ []) (offPrice 1)
     -- weights 2, 2
     ∷ judged (sheet 2 2 ("e" ∷ [])) 3
-    -- n 32 and 33, m 200 and 201, b 1,000 and 1,001
+    -- n 32 and 33, m 4,000 and 4,001, b 1,000 and 1,001
     ∷ judged (agents 32) 0
     ∷ judged (agents 33) 1
-    ∷ judged (chores 200) 0
-    ∷ judged (chores 201) 2
+    ∷ judged (chores 4000) 0
+    ∷ judged (chores 4001) 2
     ∷ judged (sheet 1 1000 ("e" ∷ [])) 0
     ∷ judged (sheet 1 1001 ("e" ∷ [])) 3
     -- two rules broken: 1 comes before 2
     ∷ judged tooMany 1
+    -- document 02, request 5: sheet C's bytes
+    ∷ spelled sheetC (2 ∷ 0 ∷ 5 ∷ 0 ∷ 1 ∷ 0 ∷ 3 ∷ 0b00000000 ∷ 0b11110000 ∷ [])
+    -- a set bit after the last reel: of 7 reels the last bit, of 9 the second of another byte, in either row; of 8 there is none
+    ∷ judged (bytes 7 (0b11111110 ∷ 0b00000000 ∷ [])) 0
+    ∷ judged (bytes 7 (0b11111111 ∷ 0b00000000 ∷ [])) 4
+    ∷ judged (bytes 7 (0b11111110 ∷ 0b00000001 ∷ [])) 4
+    ∷ judged (bytes 8 (0b11111111 ∷ 0b00000001 ∷ [])) 0
+    ∷ judged (bytes 9 (255 ∷ 0b10000000 ∷ 255 ∷ 0b10000000 ∷ [])) 0
+    ∷ judged (bytes 9 (255 ∷ 0b10000000 ∷ 255 ∷ 0b01000000 ∷ [])) 4
+    -- a row of 9 reels on one byte, a byte too many, no byte of the weights; 5 comes before 4, and for fewer than 7 bytes before 1
+    ∷ judged (bytes 9 (255 ∷ 255 ∷ [])) 5
+    ∷ judged (bytes 7 (255 ∷ 255 ∷ 0 ∷ [])) 5
+    ∷ judged (0 ∷ 0 ∷ 0 ∷ 0 ∷ 1 ∷ 0 ∷ []) 5
+    -- a row of 9 difficult marks only is read as easy, and one whose ninth mark, in another byte, is easy is not
+    ∷ shared-out (sheet 1 3 ("ddddddddd" ∷ "dddddddde" ∷ [])) (2 ∷ 2 ∷ 2 ∷ 2 ∷ 1 ∷ 1 ∷ 1 ∷ 1 ∷ 2 ∷ []) (3 ∷ 3 ∷ 3 ∷ 3 ∷ 3 ∷ 3 ∷ 3 ∷ 3 ∷ 1 ∷ []) 5 1
     -- scratch 1,024 and 1,023, with an entry for each chore and with one fewer
     ∷ lent sheetC 5 5 1024 0
     ∷ lent sheetC 5 5 1023 8
@@ -107,29 +130,33 @@ table =
     -- "Evenness isn't claimed for the parts.": the whole list is even, its first part is not
     ∷ listed (joinedSheet twoEasy twoEasy) (1 ∷ 1 ∷ 2 ∷ 2 ∷ []) holds
     ∷ listed twoEasy (1 ∷ 1 ∷ []) (unfair 1 2)
-    -- a list of 16 bytes and of 15; 200 chores and 201
-    ∷ lent-join strand1 strand2 16 0
-    ∷ lent-join strand1 strand2 15 8
-    ∷ lent-join (chores 100) (chores 100) 206 0
-    ∷ lent-join (chores 200) (chores 1) 207 2
+    -- the seam in a byte: 7 chores and 3, of which the second and third lie in the next byte; 8 chores and 3; 3 chores and 8
+    ∷ joins (sheet 1 3 ("eedddde" ∷ "ddeeeed" ∷ [])) strand2 (sheet 1 3 ("eeddddeede" ∷ "ddeeeeddee" ∷ []))
+    ∷ joins eight strand2 (sheet 1 3 ("ededededede" ∷ "ddddeeeedee" ∷ []))
+    ∷ joins strand2 eight (sheet 1 3 ("edeedededed" ∷ "deeddddeeee" ∷ []))
+    -- a list of 9 bytes and of 8; 4,000 chores and 4,001
+    ∷ lent-join strand1 strand2 9 0
+    ∷ lent-join strand1 strand2 8 8
+    ∷ lent-join (chores 3999) (chores 1) 507 0
+    ∷ lent-join (chores 4000) (chores 1) 508 2
     -- people, the easy weight, the difficult weight differ
-    ∷ lent-join (agents 2) (agents 3) 10 12
-    ∷ lent-join strand1 (sheet 2 3 ("e" ∷ "e" ∷ [])) 12 12
-    ∷ lent-join twoEasy (sheet 1 3 ("e" ∷ "e" ∷ [])) 12 12
+    ∷ lent-join (agents 2) (agents 3) 9 12
+    ∷ lent-join strand1 (sheet 2 3 ("e" ∷ "e" ∷ [])) 9 12
+    ∷ lent-join twoEasy (sheet 1 3 ("e" ∷ "e" ∷ [])) 9 12
     -- several at once: the first sheet's own number, the second's own, 12, 2, 8
     ∷ lent-join tooMany [] 0 1
     ∷ lent-join (agents 2) tooMany 0 1
-    ∷ lent-join (chores 200) (agents 2) 0 12
-    ∷ lent-join (chores 200) (chores 1) 0 2
+    ∷ lent-join (chores 4000) (agents 2) 0 12
+    ∷ lent-join (chores 4000) (chores 1) 0 2
     -- the chores on both sides of the seam, and the first and last
-    ∷ marked strand1 strand2 1 1 (marks "dd")
-    ∷ marked strand1 strand2 2 2 (marks "ed")
-    ∷ marked strand1 strand2 1 3 (marks "ede")
-    ∷ marked strand1 strand2 2 5 (marks "dee")
+    ∷ marked strand1 strand2 1 1 (row "dd")
+    ∷ marked strand1 strand2 2 2 (row "ed")
+    ∷ marked strand1 strand2 1 3 (row "ede")
+    ∷ marked strand1 strand2 2 5 (row "dee")
     -- a person or chore that isn't there; 2 comes before 9
     ∷ asked strand1 strand2 0 1 9
     ∷ asked strand1 strand2 3 1 9
     ∷ asked strand1 strand2 1 0 9
     ∷ asked strand1 strand2 1 6 9
-    ∷ asked (chores 200) (chores 1) 2 1 2
+    ∷ asked (chores 4000) (chores 1) 2 1 2
     ∷ []

@@ -1,10 +1,12 @@
 -- Document 02, request 4: "Small festivals join the sheets of two strands before sharing out." The two sheets, and the one that they make.
-use Prim.Native.Nat.{ℕ, zero, suc, _+_, _-_}
+use Prim.Native.Nat.{ℕ, zero, suc, _+_, _-_, _/_, _%_, _<_}
 use mathlib.Core.Bool.{Bool, cond, _&&_}
 use mathlib.Core.List.{List, [], _∷_, _++_}
-use lib.Dec.{eqb, leb}
-use lib.ListN.{take, drop}
-use Rattle.model.specs.Sheet.{agentsOf, choresOf, easyWeight, difficultWeight, rowOf}
+use mathlib.Core.Path.{_≡_}
+use lib.Dec.{eqb, leb, ltb}
+use lib.ListN.{length, take, drop}
+use Rattle.finite.specs.Packed.{bitAt, bytesFor, packed}
+use Rattle.model.specs.Sheet.{agentsOf, choresOf, easyWeight, difficultWeight, rowOf, isDifficult}
 
 -- "The people and both weights must agree"
 unfoldable pub agree : List ℕ → List ℕ → Bool
@@ -16,18 +18,23 @@ agree first second =
 unfoldable pub joinedChores : List ℕ → List ℕ → ℕ
 joinedChores first second = choresOf first + choresOf second
 
--- agent i's marks: "the second sheet's reels follow the first's"
+-- agent i marked chore c of both together difficult: "the second sheet's reels follow the first's"
+unfoldable pub joinedMark : List ℕ → List ℕ → ℕ → ℕ → Bool
+joinedMark first second i c = cond (ltb c (choresOf first)) (isDifficult first i c) (isDifficult second i (c - choresOf first))
+
+-- agent i's marks, packed anew: the second sheet's follow at the bit, wherever in a byte the first's end
 unfoldable pub joinedRow : List ℕ → List ℕ → ℕ → List ℕ
-joinedRow first second i = rowOf first i ++ rowOf second i
+joinedRow first second i = packed (joinedChores first second) (joinedMark first second i)
 
 -- the rows of the first k agents, "person by person"
 unfoldable pub joinedRows : List ℕ → List ℕ → ℕ → List ℕ
 joinedRows first second zero = []
 joinedRows first second (suc k) = joinedRows first second k ++ joinedRow first second k
 
--- the header: the number of agents, the joined count, and the four bytes of both weights as the first sheet has them
+-- the header: the number of agents, the joined count in two bytes, and the four bytes of both weights as the first sheet has them
 unfoldable pub joinedHeader : List ℕ → List ℕ → List ℕ
-joinedHeader first second = agentsOf first ∷ joinedChores first second ∷ take 4 (drop 2 first)
+joinedHeader first second =
+    agentsOf first ∷ joinedChores first second / 256 ∷ joinedChores first second % 256 ∷ take 4 (drop 3 first)
 
 unfoldable pub joinedSheet : List ℕ → List ℕ → List ℕ
 joinedSheet first second = joinedHeader first second ++ joinedRows first second (agentsOf first)
@@ -47,9 +54,13 @@ strandSheet first second chore = cond (inFirst first chore) first second
 unfoldable pub strandMarks : List ℕ → List ℕ → ℕ → ℕ → List ℕ
 strandMarks first second person chore = rowOf (strandSheet first second chore) (person - 1)
 
--- the same person's marks for that strand on the joined sheet
-unfoldable pub joinedMarks : List ℕ → List ℕ → ℕ → ℕ → List ℕ
-joinedMarks first second person chore =
-    cond (inFirst first chore)
-    (take (choresOf first) (rowOf (joinedSheet first second) (person - 1)))
-    (drop (choresOf first) (rowOf (joinedSheet first second) (person - 1)))
+-- the number on the joined sheet, counted from 0, of that sheet's first chore
+unfoldable pub strandBegin : List ℕ → ℕ → ℕ
+strandBegin first chore = cond (inFirst first chore) 0 (choresOf first)
+
+-- the bytes are a row of marks that the joined sheet has for the same person and that strand
+pub record OnJoined (first second : List ℕ) (person chore : ℕ) (marks : List ℕ) : Type 0 where
+  pub size : length marks ≡ bytesFor (choresOf (strandSheet first second chore))
+  pub mark :
+      (c : ℕ) → c < choresOf (strandSheet first second chore)
+      → bitAt marks c ≡ isDifficult (joinedSheet first second) (person - 1) (strandBegin first chore + c)

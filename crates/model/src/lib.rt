@@ -67,15 +67,15 @@ pub struct BookResult {
 }
 
 // The bytes of a sheet before its marks, as in specs/Sheet.antt.
-pub const HEADER_SIZE: usize = 6;
+pub const HEADER_SIZE: usize = 7;
 
 // The bytes of a move in a record, as in specs/Record.antt.
 pub const MOVE_SIZE: usize = 6;
 
-// Document 01's limits, in the code's types; specs/Limits.antt has the same numbers.
+// The documents' limits, in the code's types; specs/Limits.antt has the same numbers.
 pub const MAX_AGENTS: usize = 32;
 
-pub const MAX_CHORES: usize = 200;
+pub const MAX_CHORES: usize = 4000;
 
 pub const MAX_WEIGHT: u32 = 1000;
 
@@ -87,4 +87,4 @@ pub const MAX_SHEETS: usize = 16;
 
 pub const MAX_BOOK: usize = 65535;
 
-pub const BOOK_ENTRIES: usize = 3200;
+pub const BOOK_ENTRIES: usize = 64000;
