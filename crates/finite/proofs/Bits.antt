@@ -44,7 +44,7 @@ same-digit x y h l q =
     (λ e. by-digit l (λ f. absurd (true≢false (rw (e, f) at q))) (λ f. e ∙ sym f))
 
 -- the lowest bit of a number in two digits
-last-digit : (a x : ℕ) → x < 2 → (a * 2 + x) % 2 ≡ x
+pub last-digit : (a x : ℕ) → x < 2 → (a * 2 + x) % 2 ≡ x
 last-digit a x h = mul-add-mod-self-right a 2 x ∙ mod-eq-of-lt h
 
 -- the bits of words
@@ -107,7 +107,7 @@ pub bit-half : (w i : ℕ) → bit (w / 2) i ≡ bit w (suc i)
 unfolding bit
 bit-half w i = rw (div-div-eq-div-mul, mul-comm 2 (2 ^ i), ← pow-suc 2 i)
 
-half-lt : {a : ℕ} (k : ℕ) → a < 2 ^ suc k → a / 2 < 2 ^ k
+pub half-lt : {a : ℕ} (k : ℕ) → a < 2 ^ suc k → a / 2 < 2 ^ k
 half-lt {a} k h = let l = rw (pow-suc 2 k) at h in omega arith
 
 -- two words with the same bits are equal

@@ -15,3 +15,4 @@ pub mod Running
 pub mod Reach
 pub mod Distances
 pub mod Bits
+pub mod Packed

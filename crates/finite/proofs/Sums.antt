@@ -105,3 +105,9 @@ pub sum-split : (n m : ℕ) (f : ℕ → ℕ) → sumTo (n + m) f ≡ sumTo n f 
 unfolding sumTo
 sum-split n zero f = rw (add-zero n) (omega arith)
 sum-split n (suc k) f = rw add-suc (omega (arith, sum-split n k f))
+
+-- the first one apart
+pub sum-front : (k : ℕ) (f : ℕ → ℕ) → sumTo (suc k) f ≡ f 0 + sumTo k (λ c. f (suc c))
+unfolding sumTo
+sum-front zero f = omega arith
+sum-front (suc k) f = omega (arith, sum-front k f)

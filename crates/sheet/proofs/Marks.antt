@@ -1,41 +1,51 @@
 -- Where the marks of a sheet lie, and what a row of them is.
-use Prim.Native.Nat.{ℕ, _+_, _*_, _≤_, _<_}
-use mathlib.Core.Bool.{not}
+-- Assumes nothing.
+use Prim.Native.Nat.{ℕ, _+_, _*_, _-_, _/_, _%_, _≤_, _<_}
+use mathlib.Core.Bool.{cond}
 use mathlib.Core.List.{List}
-use mathlib.Core.Path.{_≡_, sym, _∙_}
+use mathlib.Core.Path.{_≡_, sym, ap, _∙_}
 use native.Mathlib.Nat.{mul-le-mul-right}
 use native.Mathlib.Omega.{arith}
-use lib.Arith.{digits-lt}
+use lib.Dec.{eqb}
 use lib.ListN.{length, getD, drop, length-drop}
 use lib.Seq.{length-take-le, getD-take, getD-drop}
-use Rattle.finite.specs.Search.{allBelow}
-use Rattle.finite.proofs.Tests.{not-not}
-use Rattle.finite.proofs.Search.{all-cong}
-use Rattle.model.specs.Sheet.{headerSize, choresOf, rowStart, rowOf, markAt, sheetLength, isDifficult, marksEasy, allDifficult}
-use Rattle.sheet.specs.Readers.{InSheet, RowInSheet}
+use Rattle.finite.specs.Sums.{countTo}
+use Rattle.finite.specs.Bits.{bit}
+use Rattle.finite.specs.Packed.{bitAt, bytesFor}
+use Rattle.finite.proofs.Packed.{bit-digit, count-rest, all-counted}
+use Rattle.model.specs.Sheet.{headerSize, agentsOf, choresOf, rowSize, rowStart, rowOf, sheetLength, isDifficult, difficultMarks, allDifficult}
+use Rattle.sheet.specs.Readers.{RowInSheet, InSheet}
 
--- a row is all difficult where none of its marks is easy
-pub all-difficult-row : (s : List ℕ) (i : ℕ) → allDifficult s i ≡ allBelow (choresOf s) (λ c. not (marksEasy s i c))
-unfolding allDifficult marksEasy
-all-difficult-row s i = all-cong (choresOf s) (λ c _. sym (not-not (isDifficult s i c)))
-
--- a mark lies inside its sheet
-pub inside : {s : List ℕ} {m i c : ℕ} → InSheet s m i c → headerSize + i * m + c < length s
-unfolding sheetLength
-inside {s} {m} {i} {c} h = rw (h .chores, h .long) (omega (arith, digits-lt (h .agent) (h .chore)))
-
-module _ {s : List ℕ} {m i : ℕ} (h : RowInSheet s m i) where
-  -- and so does a row
-  pub row-inside : headerSize + i * m + m ≤ length s
+module _ (s : List ℕ) (i : ℕ) (long : length s ≡ sheetLength s) (agent : i < agentsOf s) where
+  -- a row lies inside its sheet
+  pub row-inside : rowStart s i + rowSize s ≤ length s
   unfolding sheetLength
-  row-inside = rw (h .chores, h .long) (omega (arith, mul-le-mul-right (choresOf s) (h .agent)))
+  row-inside = rw long (omega (arith, mul-le-mul-right (rowSize s) agent))
 
-  pub row-long : length (rowOf s i) ≡ choresOf s
+  pub row-long : length (rowOf s i) ≡ rowSize s
   unfolding rowOf
-  row-long =
-      length-take-le (choresOf s) (drop (rowStart s i) s) (simp length-drop (let l = rw (h .chores) at row-inside in omega arith))
+  row-long = length-take-le (rowSize s) (drop (rowStart s i) s) (simp length-drop (let l = row-inside in omega arith))
 
--- the marks of a row
-pub mark-in-row : (s : List ℕ) (i c : ℕ) → c < choresOf s → markAt s i c ≡ getD (rowOf s i) c 0
-unfolding markAt rowOf
-mark-in-row s i c k = sym (getD-take (choresOf s) (drop (rowStart s i) s) c 0 k ∙ getD-drop (rowStart s i) s c 0)
+-- its bytes
+pub row-byte : (s : List ℕ) (i k : ℕ) → k < rowSize s → getD (rowOf s i) k 0 ≡ getD s (rowStart s i + k) 0
+unfolding rowOf
+row-byte s i k l = getD-take (rowSize s) (drop (rowStart s i) s) k 0 l ∙ getD-drop (rowStart s i) s k 0
+
+-- its marks
+module _ (s : List ℕ) (i c : ℕ) (l : c < choresOf s) where
+  pub byte-below : c / 8 < rowSize s
+  byte-below = omega arith
+
+  pub mark-bit : isDifficult s i c ≡ bit (getD s (rowStart s i + c / 8) 0) (7 - c % 8)
+  unfolding isDifficult bitAt
+  mark-bit = ap (λ x. bit x (7 - c % 8)) (row-byte s i (c / 8) byte-below)
+
+-- the difficult marks of a row are the bits set in all of its bytes
+module _ {s : List ℕ} {m i : ℕ} (h : RowInSheet s m i) where
+  pub row-count : countTo (8 * rowSize s) (bitAt (rowOf s i)) ≡ difficultMarks s i
+  unfolding difficultMarks isDifficult
+  row-count = count-rest (bitAt (rowOf s i)) (omega arith) (λ k. h .valid .padding i k (h .agent))
+
+  pub all-difficult-count : allDifficult s i ≡ eqb (difficultMarks s i) m
+  unfolding allDifficult difficultMarks
+  all-difficult-count = rw (h .chores) (all-counted (choresOf s) (isDifficult s i))

@@ -1,20 +1,19 @@
 -- What a sheet's refusal 0 means, and refusal 8 of 0.
-use Prim.Native.Nat.{ℕ, _+_, _*_, _/_, _%_, _≤_, _<_}
-use mathlib.Core.Bool.{true, false}
+use Prim.Native.Nat.{ℕ, _+_, _*_, _-_, _≤_, _<_}
+use mathlib.Core.Bool.{false}
 use mathlib.Core.List.{List}
-use mathlib.Core.Path.{_≡_, ap}
-use native.Mathlib.Nat.{add-assoc, pos-of-ne-zero, mod-lt, div-add-mod', div-lt-iff-lt-mul}
+use mathlib.Core.Path.{_≡_}
 use native.Mathlib.Omega.{arith}
-use lib.Arith.{digits-lt}
 use lib.Dec.{eqb, leb}
-use lib.ListN.{length, getD}
+use lib.ListN.{length}
 use borrow.Author.Tests.{le-ltb, ltb-false, leb-false, lt-leb, eq-eqb, ne-eqb, eqb-true, eqb-false, not-false}
-use Rattle.finite.proofs.Tests.{or-none, or-none-intro, not-off}
+use Rattle.finite.specs.Packed.{bitAt}
+use Rattle.finite.proofs.Tests.{or-none, or-none-intro}
 use Rattle.finite.proofs.Search.{any-none, any-none-intro}
 use Rattle.model.specs.Limits.{maxChores, maxWeight}
-use Rattle.model.specs.Sheet.{headerSize, agentsOf, choresOf, easyWeight, difficultWeight, sheetLength, markAt}
+use Rattle.model.specs.Sheet.{headerSize, agentsOf, choresOf, easyWeight, difficultWeight, rowSize, rowOf, sheetLength}
 use Rattle.model.specs.Record.{moveSize}
-use Rattle.model.specs.Refusals.{_orElse_, outOfRange, weightsFault, isMark, marksFault, headerRefusal, sheetRefusal, lentRefusal, allocateRefusal, recordRefusal, recordedRefusal}
+use Rattle.model.specs.Refusals.{_orElse_, outOfRange, weightsFault, setAfter, marksFault, headerRefusal, sheetRefusal, lentRefusal, allocateRefusal, recordRefusal, recordedRefusal}
 use Rattle.sheet.specs.Valid.{Valid}
 use Rattle.sheet.proofs.OrElse.{or-else-zero, when-none, peel}
 
@@ -41,22 +40,13 @@ weights-no-fault a b some easier fit =
     or-none-intro (ne-eqb a 0 (omega arith)) (or-none-intro (lt-leb b a easier) (le-ltb maxWeight b fit))
 
 module _ (s : List ℕ) where
-  marks-facts :
-      marksFault s (agentsOf s * choresOf s) ≡ false
-      → (i c : ℕ) → i < agentsOf s → c < choresOf s → isMark (markAt s i c) ≡ true
-  unfolding markAt
-  marks-facts e i c l k =
-      rw (add-assoc headerSize (i * choresOf s) c) (not-false _ (any-none _ _ e (i * choresOf s + c) (digits-lt l k)))
+  padding-facts : marksFault s ≡ false → (i k : ℕ) → i < agentsOf s → k < 8 * rowSize s - choresOf s → bitAt (rowOf s i) (choresOf s + k) ≡ false
+  unfolding marksFault setAfter
+  padding-facts e i k l h = any-none _ _ (any-none _ _ e i l) k h
 
-  marks-no-fault :
-      ((i c : ℕ) → i < agentsOf s → c < choresOf s → isMark (markAt s i c) ≡ true)
-      → marksFault s (agentsOf s * choresOf s) ≡ false
-  unfolding markAt
-  marks-no-fault marks = any-none-intro _ _ λ k l.
-      let m = choresOf s in
-      let some : 0 < m = pos-of-ne-zero (λ z. omega (arith, ap (λ x. agentsOf s * x) z)) in
-      let e : getD s (headerSize + k / m * m + k % m) 0 ≡ getD s (headerSize + k) 0 = rw (add-assoc headerSize (k / m * m), div-add-mod' k m) in
-      not-off (rw e at (marks (k / m) (k % m) (div-lt-iff-lt-mul some .1 l) (mod-lt k some)))
+  padding-no-fault : ((i k : ℕ) → i < agentsOf s → k < 8 * rowSize s - choresOf s → bitAt (rowOf s i) (choresOf s + k) ≡ false) → marksFault s ≡ false
+  unfolding marksFault setAfter
+  padding-no-fault none = any-none-intro _ _ λ i l. any-none-intro _ _ λ k h. none i k l h
 
 -- refusal 0 means that the sheet is valid
 pub valid : (s : List ℕ) → sheetRefusal s ≡ 0 → Valid s
@@ -78,7 +68,7 @@ valid s e =
       easier = w .1;
       weightFits = w .2;
       long = eqb-true (length s) (sheetLength s) (not-false _ (long .0));
-      marks = marks-facts s (when-none _ 3 (long .1));
+      padding = padding-facts s (when-none _ 3 (long .1));
     }
 
 -- and a valid sheet is not refused
@@ -91,7 +81,7 @@ accepted s v =
       le-ltb _ _ (v .choresFit),
       weights-no-fault _ _ (v .easyPositive) (v .easier) (v .weightFits),
       eq-eqb _ _ (v .long),
-      marks-no-fault s (v .marks),
+      padding-no-fault s (v .padding),
     )
 
 -- and refusal 8 of 0 that a lent list is long enough

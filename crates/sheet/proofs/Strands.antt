@@ -2,27 +2,28 @@
 -- the second's, and it breaks no rule.
 -- Assumes nothing.
 use Prim.Native.Nat.{ℕ, zero, suc, _+_, _*_, _-_, _≤_, _<_}
-use mathlib.Core.Bool.{true}
+use mathlib.Core.Bool.{false, _&&_}
 use mathlib.Core.List.{List, [], _∷_, _++_, append-assoc, append-nil}
 use mathlib.Core.Path.{_≡_, refl, sym, ap, ap₂, _∙_}
-use native.Mathlib.Nat.{le-refl}
+use native.Mathlib.Nat.{add-sub-cancel-left}
 use native.Mathlib.Omega.{arith}
-use lib.Dec.{eqb}
-use lib.ListN.{length, getD, take, drop, length-append, List·getD-append}
-use lib.Seq.{take-at, drop-at, getD-append-add, drop-cons}
-use borrow.Author.Tests.{eqb-true, ltb-false, not-false}
+use lib.Dec.{eqb, ltb}
+use lib.ListN.{length, getD, take, drop, length-append}
+use lib.Seq.{take-at, drop-at, drop-cons}
+use borrow.Author.Tests.{eqb-true, ltb-false, lt-ltb, le-ltb, not-false}
 use Rattle.finite.specs.Lists.{wordAt}
 use Rattle.finite.proofs.Tests.{and-elim}
-use Rattle.finite.proofs.Below.{none-below, by-top, by-less}
+use Rattle.finite.specs.Packed.{bitAt, bytesFor}
+use Rattle.finite.proofs.Below.{none-below, by-top}
+use Rattle.finite.proofs.Packed.{packed-long, packed-bit}
 use Rattle.model.specs.Limits.{maxChores}
-use Rattle.model.specs.Sheet.{headerSize, agentsOf, choresOf, easyWeight, difficultWeight, rowStart, rowOf, markAt, sheetLength}
-use Rattle.model.specs.Strands.{agree, joinedChores, joinedRow, joinedRows, joinedHeader, joinedSheet}
-use Rattle.model.specs.Refusals.{isMark, sheetRefusal, strandsRefusal}
+use Rattle.model.specs.Sheet.{headerSize, agentsOf, choresOf, easyWeight, difficultWeight, rowSize, rowStart, rowOf, isDifficult, sheetLength}
+use Rattle.model.specs.Strands.{agree, joinedChores, joinedMark, joinedRow, joinedRows, joinedHeader, joinedSheet}
+use Rattle.model.specs.Refusals.{sheetRefusal, strandsRefusal}
 use Rattle.sheet.specs.Valid.{Valid, Joinable}
 use Rattle.sheet.specs.Readers.{RowInSheet}
 use Rattle.sheet.proofs.OrElse.{or-else-zero, when-none, peel}
 use Rattle.sheet.proofs.Refusal.{valid, accepted}
-use Rattle.sheet.proofs.Marks.{row-long, mark-in-row}
 
 -- what refusal 0 of two strands means
 
@@ -44,9 +45,9 @@ joinable first second e =
     }
 
 -- both weights of a sheet, byte by byte
-pub weight-bytes : (s : List ℕ) → headerSize ≤ length s → take 4 (drop 2 s) ≡ getD s 2 0 ∷ getD s 3 0 ∷ getD s 4 0 ∷ getD s 5 0 ∷ []
+pub weight-bytes : (s : List ℕ) → headerSize ≤ length s → take 4 (drop 3 s) ≡ getD s 3 0 ∷ getD s 4 0 ∷ getD s 5 0 ∷ getD s 6 0 ∷ []
 weight-bytes s l =
-    rw (drop-cons s 2 0 (omega arith), drop-cons s 3 0 (omega arith), drop-cons s 4 0 (omega arith), drop-cons s 5 0 (omega arith))
+    rw (drop-cons s 3 0 (omega arith), drop-cons s 4 0 (omega arith), drop-cons s 5 0 (omega arith), drop-cons s 6 0 (omega arith))
 
 -- where a row stands among others
 record Among (first second : List ℕ) (k i : ℕ) : Type 0 where
@@ -69,36 +70,35 @@ among first second (suc k) i l =
 module _ {first second : List ℕ} (J : Joinable first second) where
   -- an agent has a row in both sheets
   pub first-row : {i m : ℕ} → i < agentsOf first → m ≡ choresOf first → RowInSheet first m i
-  first-row l e = record { long = J .validFirst .long; chores = e; agent = l }
+  first-row l e = record { valid = J .validFirst; chores = e; agent = l }
 
   pub second-row : {i m : ℕ} → i < agentsOf first → m ≡ choresOf second → RowInSheet second m i
-  second-row l e = record { long = J .validSecond .long; chores = e; agent = omega (arith, J .agents) }
+  second-row l e = record { valid = J .validSecond; chores = e; agent = omega (arith, J .agents) }
 
   -- the lengths of its parts, and its own
 
-  weights : take 4 (drop 2 first) ≡ getD first 2 0 ∷ getD first 3 0 ∷ getD first 4 0 ∷ getD first 5 0 ∷ []
+  weights : take 4 (drop 3 first) ≡ getD first 3 0 ∷ getD first 4 0 ∷ getD first 5 0 ∷ getD first 6 0 ∷ []
   weights = weight-bytes first (J .validFirst .header)
 
   pub header-long : length (joinedHeader first second) ≡ headerSize
   unfolding joinedHeader
   header-long = rw weights refl
 
-  joined-row-long : (i : ℕ) → i < agentsOf first → length (joinedRow first second i) ≡ joinedChores first second
-  unfolding joinedRow joinedChores
-  joined-row-long i l = length-append (rowOf first i) (rowOf second i) ∙ ap₂ _+_ (row-long (first-row l refl)) (row-long (second-row l refl))
+  joined-row-long : (i : ℕ) → length (joinedRow first second i) ≡ bytesFor (joinedChores first second)
+  unfolding joinedRow
+  joined-row-long i = packed-long (joinedChores first second) (joinedMark first second i)
 
-  pub rows-long : (k : ℕ) → k ≤ agentsOf first → length (joinedRows first second k) ≡ k * joinedChores first second
+  pub rows-long : (k : ℕ) → length (joinedRows first second k) ≡ k * bytesFor (joinedChores first second)
   unfolding joinedRows
-  rows-long zero l = omega arith
-  rows-long (suc k) l =
-      length-append (joinedRows first second k) (joinedRow first second k)
-      ∙ omega (arith, rows-long k (omega arith), joined-row-long k l)
+  rows-long zero = omega arith
+  rows-long (suc k) =
+      length-append (joinedRows first second k) (joinedRow first second k) ∙ omega (arith, rows-long k, joined-row-long k)
 
-  pub joined-long : length (joinedSheet first second) ≡ headerSize + agentsOf first * joinedChores first second
+  pub joined-long : length (joinedSheet first second) ≡ headerSize + agentsOf first * bytesFor (joinedChores first second)
   unfolding joinedSheet
   joined-long =
       length-append (joinedHeader first second) (joinedRows first second (agentsOf first))
-      ∙ ap₂ _+_ header-long (rows-long (agentsOf first) (le-refl _))
+      ∙ ap₂ _+_ header-long (rows-long (agentsOf first))
 
   -- its header
 
@@ -107,8 +107,8 @@ module _ {first second : List ℕ} (J : Joinable first second) where
   joined-agents = refl
 
   pub joined-chores : choresOf (joinedSheet first second) ≡ joinedChores first second
-  unfolding choresOf joinedSheet joinedHeader
-  joined-chores = refl
+  unfolding choresOf wordAt joinedSheet joinedHeader
+  joined-chores = omega arith
 
   pub joined-easy : easyWeight (joinedSheet first second) ≡ easyWeight first
   unfolding easyWeight wordAt joinedSheet joinedHeader
@@ -126,50 +126,45 @@ module _ {first second : List ℕ} (J : Joinable first second) where
       let a = among first second (agentsOf first) i l in
       let head = joinedHeader first second ++ joinedRows first second i in
       let row = joinedRow first second i in
+      let size : length row ≡ rowSize (joinedSheet first second) = joined-row-long i ∙ ap bytesFor (sym joined-chores) in
       let before : length head ≡ rowStart (joinedSheet first second) i =
       length-append (joinedHeader first second) (joinedRows first second i)
-      ∙ ap₂ _+_ header-long (rows-long i (omega arith))
-      ∙ ap (λ m. headerSize + i * m) (sym joined-chores) in
+      ∙ ap₂ _+_ header-long (rows-long i)
+      ∙ ap (λ m. headerSize + i * bytesFor m) (sym joined-chores) in
       let spelled : joinedSheet first second ≡ head ++ (row ++ a .rest) =
       ap (λ rows. joinedHeader first second ++ rows) (a .whole)
       ∙ sym (append-assoc (joinedHeader first second) (joinedRows first second i) (row ++ a .rest)) in
-      ap (λ s. take (choresOf (joinedSheet first second)) (drop (rowStart (joinedSheet first second) i) s)) spelled
-      ∙ ap (take (choresOf (joinedSheet first second))) (drop-at head (row ++ a .rest) _ before)
-      ∙ take-at row (a .rest) _ (joined-row-long i l ∙ sym joined-chores)
+      ap (λ s. take (rowSize (joinedSheet first second)) (drop (rowStart (joinedSheet first second) i) s)) spelled
+      ∙ ap (take (rowSize (joinedSheet first second))) (drop-at head (row ++ a .rest) _ before)
+      ∙ take-at row (a .rest) _ size
+
+  -- its bits: the marks of both, and 0 after them
+  joined-bit : (i c : ℕ) → i < agentsOf first → c < 8 * bytesFor (joinedChores first second) → bitAt (rowOf (joinedSheet first second) i) c ≡ (ltb c (joinedChores first second) && joinedMark first second i c)
+  unfolding joinedRow
+  joined-bit i c l k = ap (λ row. bitAt row c) (joined-row i l) ∙ packed-bit (joinedChores first second) (joinedMark first second i) c k
+
+  pub joined-mark : (i c : ℕ) → i < agentsOf first → c < joinedChores first second → isDifficult (joinedSheet first second) i c ≡ joinedMark first second i c
+  unfolding isDifficult
+  joined-mark i c l k = joined-bit i c l (omega arith) ∙ ap (λ t. t && joinedMark first second i c) (lt-ltb c (joinedChores first second) k)
 
   -- its marks: the first's, and after them the second's
 
-  pub mark-first : (i c : ℕ) → i < agentsOf first → c < choresOf first → markAt (joinedSheet first second) i c ≡ markAt first i c
-  unfolding joinedRow joinedChores
-  mark-first i c l k =
-      mark-in-row (joinedSheet first second) i c (omega (arith, joined-chores))
-      ∙ ap (λ row. getD row c 0) (joined-row i l)
-      ∙ List·getD-append (rowOf first i) (rowOf second i) 0 c (rw (row-long (first-row l refl)) k)
-      ∙ sym (mark-in-row first i c k)
+  pub mark-first : (i c : ℕ) → i < agentsOf first → c < choresOf first → isDifficult (joinedSheet first second) i c ≡ isDifficult first i c
+  unfolding joinedMark joinedChores
+  mark-first i c l k = joined-mark i c l (omega arith) ∙ rw (lt-ltb c (choresOf first) k)
 
-  pub mark-second : (i c : ℕ) → i < agentsOf first → c < choresOf second → markAt (joinedSheet first second) i (choresOf first + c) ≡ markAt second i c
-  unfolding joinedRow joinedChores
+  pub mark-second : (i c : ℕ) → i < agentsOf first → c < choresOf second → isDifficult (joinedSheet first second) i (choresOf first + c) ≡ isDifficult second i c
+  unfolding joinedMark joinedChores
   mark-second i c l k =
-      mark-in-row (joinedSheet first second) i (choresOf first + c) (omega (arith, joined-chores))
-      ∙ ap (λ row. getD row (choresOf first + c) 0) (joined-row i l)
-      ∙ ap (λ m. getD (rowOf first i ++ rowOf second i) (m + c) 0) (sym (row-long (first-row l refl)))
-      ∙ getD-append-add (rowOf first i) (rowOf second i) c 0
-      ∙ sym (mark-in-row second i c k)
+      joined-mark i (choresOf first + c) l (omega arith)
+      ∙ rw (le-ltb (choresOf first + c) (choresOf first) (omega arith), add-sub-cancel-left (choresOf first) c)
 
   -- it breaks no rule
 
-  joined-mark : (i c : ℕ) → i < agentsOf first → c < joinedChores first second → isMark (markAt (joinedSheet first second) i c) ≡ true
-  unfolding joinedChores
-  joined-mark i c l k =
-      by-less c (choresOf first)
-      (λ h. ap isMark (mark-first i c l h) ∙ J .validFirst .marks i c l h)
-      (λ h.
-      let d = c - choresOf first in
-      let here : choresOf first + d ≡ c = omega arith in
-      let inside : d < choresOf second = omega arith in
-      ap (λ c. isMark (markAt (joinedSheet first second) i c)) (sym here)
-      ∙ ap isMark (mark-second i d l inside)
-      ∙ J .validSecond .marks i d (omega (arith, J .agents)) inside)
+  joined-padding : (i k : ℕ) → i < agentsOf first → k < 8 * bytesFor (joinedChores first second) - joinedChores first second → bitAt (rowOf (joinedSheet first second) i) (joinedChores first second + k) ≡ false
+  joined-padding i k l h =
+      let m = joinedChores first second in
+      joined-bit i (m + k) l (omega arith) ∙ ap (λ t. t && joinedMark first second i (m + k)) (le-ltb (m + k) m (omega arith))
 
   pub joined-valid : Valid (joinedSheet first second)
   unfolding sheetLength
@@ -184,7 +179,7 @@ module _ {first second : List ℕ} (J : Joinable first second) where
         easier = omega (arith, joined-easy, joined-difficult, v .easier);
         weightFits = omega (arith, joined-difficult, v .weightFits);
         long = joined-long ∙ rw (joined-agents, joined-chores);
-        marks = λ i c l k. joined-mark i c (rw joined-agents at l) (rw joined-chores at k);
+        padding = λ i k l h. rw joined-chores (joined-padding i k (rw joined-agents at l) (rw joined-chores at h));
       }
 
   pub joined-taken : sheetRefusal (joinedSheet first second) ≡ 0

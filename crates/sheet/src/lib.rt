@@ -1,18 +1,15 @@
 // Reading a sheet: its header, its marks, and the number that it is turned down with. Agents and chores are counted from 0.
 
 ghost use mathlib.Core.Path.{_≡_};
-ghost use Prim.Native.Nat.{_+_, _*_, _^_, _≤_, _<_};
-ghost use mathlib.Core.Bool.{not};
+ghost use Prim.Native.Nat.{_+_, _*_, _≤_, _<_};
+ghost use mathlib.Core.Bool.{cond, not};
 ghost use lib.Dec.{eqb};
 ghost use lib.ListN.{length, getD};
 ghost use Rattle.finite.specs.Lists.{wordAt};
-ghost use Rattle.model.specs.Sheet.{headerSize, agentsOf, choresOf, easyWeight, difficultWeight, rowOf, markAt, marksEasy, allDifficult};
-ghost use Rattle.model.specs.Refusals.{_orElse_, _when_, outOfRange, weightsFault, isMark, marksFault, headerRefusal, sheetRefusal, lentRefusal};
-ghost use Rattle.sheet.specs.Readers.{Read, InSheet, RowInSheet};
-
-pub const EASY: u8 = b'e';
-
-const DIFFICULT: u8 = b'd';
+ghost use Rattle.finite.specs.Packed.{bytesFor};
+ghost use Rattle.model.specs.Sheet.{headerSize, agentsOf, choresOf, easyWeight, difficultWeight, rowOf, isDifficult, marksEasy, sheetLength, difficultMarks, allDifficult};
+ghost use Rattle.model.specs.Refusals.{_orElse_, _when_, outOfRange, weightsFault, setAfter, marksFault, headerRefusal, sheetRefusal, lentRefusal};
+ghost use Rattle.sheet.specs.Readers.{Read, Whole, RowInSheet, InSheet};
 
 pub fn byte_at(bytes: &[u8], i: usize) -> u32
     requires { ⌜ i < length (now bytes) ⌝ }
@@ -40,31 +37,40 @@ pub fn agents(sheet: &[u8]) -> usize
 
 pub fn chores(sheet: &[u8]) -> usize
     requires { ⌜ headerSize ≤ length (now sheet) ⌝ }
-    ensures { λ r. ⌜ Read (choresOf (now (sheet .entry))) 256 r ⌝ }
+    ensures { λ r. ⌜ Read (choresOf (now (sheet .entry))) 65536 r ⌝ }
 {
-    byte_at(sheet, 1) as usize
+    word_at(sheet, 1) as usize
 }
 
 pub fn easy_weight(sheet: &[u8]) -> u32
     requires { ⌜ headerSize ≤ length (now sheet) ⌝ }
     ensures { λ r. ⌜ Read (easyWeight (now (sheet .entry))) 65536 r ⌝ }
 {
-    word_at(sheet, 2)
+    word_at(sheet, 3)
 }
 
 pub fn difficult_weight(sheet: &[u8]) -> u32
     requires { ⌜ headerSize ≤ length (now sheet) ⌝ }
     ensures { λ r. ⌜ Read (difficultWeight (now (sheet .entry))) 65536 r ⌝ }
 {
-    word_at(sheet, 4)
+    word_at(sheet, 5)
+}
+
+// The bytes of a row of m marks.
+pub fn row_size(m: usize) -> usize
+    requires { ⌜ m < 65536 ⌝ }
+    ensures { λ r. ⌜ r ≡ bytesFor m ⌝ }
+{
+    (m + 7) / 8
 }
 
 // Where agent i's row starts, with m chores.
 pub fn row_start(m: usize, i: usize) -> usize
-    requires { ⌜ headerSize + i * m < 2 ^ 64 ⌝ }
-    ensures { λ r. ⌜ r ≡ headerSize + i * m ⌝ }
+    requires { ⌜ m < 65536 ⌝ }
+    requires { ⌜ i < 256 ⌝ }
+    ensures { λ r. ⌜ r ≡ headerSize + i * bytesFor m ⌝ }
 {
-    model::HEADER_SIZE + i * m
+    model::HEADER_SIZE + i * row_size(m)
 }
 
 // Agent i's marks, as a part of the sheet.
@@ -73,24 +79,42 @@ pub fn row(sheet: &[u8], m: usize, i: usize) -> &[u8]
     ensures { λ r. ⌜ now r ≡ rowOf (now (sheet .entry)) i ⌝ }
 {
     let start = row_start(m, i);
-    let end = start + m;
+    let end = start + row_size(m);
     &sheet[start..end]
 }
 
-// Whoever asks for a mark asks here, so that where it lies is known to nobody else. The caller passes the number of chores, since a
-// search asks for many marks of one sheet.
+// 1 for a difficult mark, 0 for an easy one, the high bit of a byte first. Whoever asks for a mark asks here, so that where it lies is known to
+// nobody else. The caller passes the number of chores, since a search asks for many marks of one sheet.
 pub fn mark_at(sheet: &[u8], m: usize, i: usize, c: usize) -> u8
     requires { ⌜ InSheet (now sheet) m i c ⌝ }
-    ensures { λ r. ⌜ r ≡ markAt (now (sheet .entry)) i c ⌝ }
+    ensures { λ r. ⌜ r ≡ cond (isDifficult (now (sheet .entry)) i c) 1 0 ⌝ }
 {
-    sheet[row_start(m, i) + c]
+    let byte = sheet[row_start(m, i) + c / 8];
+    (byte >> (7 - c % 8)) % 2
 }
 
 pub fn marks_easy(sheet: &[u8], m: usize, i: usize, c: usize) -> bool
     requires { ⌜ InSheet (now sheet) m i c ⌝ }
     ensures { λ r. ⌜ r ≡ marksEasy (now (sheet .entry)) i c ⌝ }
 {
-    mark_at(sheet, m, i, c) != DIFFICULT
+    mark_at(sheet, m, i, c) == 0
+}
+
+// Document 02, request 5: "The number of difficult marks in a row is told from its count of ones", over each byte. The bits after the last
+// mark are 0.
+pub fn difficult_marks(sheet: &[u8], m: usize, i: usize) -> usize
+    requires { ⌜ RowInSheet (now sheet) m i ⌝ }
+    ensures { λ r. ⌜ r ≡ difficultMarks (now (sheet .entry)) i ⌝ }
+{
+    let start = row_start(m, i);
+    let size = row_size(m);
+    let mut count = 0;
+    let mut k = 0;
+    while k < size {
+        count += u8::count_ones(sheet[start + k]) as usize;
+        k += 1;
+    }
+    count
 }
 
 // Whether agent i marked every chore difficult.
@@ -98,37 +122,37 @@ pub fn all_difficult(sheet: &[u8], m: usize, i: usize) -> bool
     requires { ⌜ RowInSheet (now sheet) m i ⌝ }
     ensures { λ r. ⌜ r ≡ allDifficult (now (sheet .entry)) i ⌝ }
 {
-    let mut c = 0;
-    while c < m {
-        if marks_easy(sheet, m, i, c) {
-            return false;
-        }
-        c += 1;
-    }
-    true
+    difficult_marks(sheet, m, i) == m
 }
 
-fn is_mark(byte: u8) -> bool
-    ensures { λ r. ⌜ r ≡ isMark byte ⌝ }
+// Whether a bit after agent i's last mark is set: these are the low bits of its row's last byte.
+fn set_after(sheet: &[u8], n: usize, m: usize, i: usize) -> bool
+    requires { ⌜ Whole (now sheet) n m ⌝ }
+    requires { ⌜ (i < n) × (n < 256) ⌝ }
+    ensures { λ r. ⌜ r ≡ setAfter m (rowOf (now (sheet .entry)) i) ⌝ }
 {
-    byte == EASY || byte == DIFFICULT
+    if m == 0 {
+        return false;
+    }
+    let size = row_size(m);
+    let last = sheet[row_start(m, i) + (size - 1)];
+    last % (1u8 << (8 * size - m)) != 0
 }
 
-// Whether one of the `count` bytes after the header is no mark. It reads them all: a sheet mostly has marks only, and without a way out of
-// the loop many are tested at once.
-fn marks_fault(sheet: &[u8], count: usize) -> bool
-    requires { ⌜ headerSize + count ≤ length (now sheet) ⌝ }
-    ensures { λ r. ⌜ r ≡ marksFault (now (sheet .entry)) count ⌝ }
+// Whether that is so in some row.
+fn marks_fault(sheet: &[u8], n: usize, m: usize) -> bool
+    requires { ⌜ Whole (now sheet) n m ⌝ }
+    requires { ⌜ n < 256 ⌝ }
+    ensures { λ r. ⌜ r ≡ marksFault (now (sheet .entry)) ⌝ }
 {
-    let mut fault = false;
-    let mut k = 0;
-    while k < count {
-        if !is_mark(sheet[model::HEADER_SIZE + k]) {
-            fault = true;
+    let mut i = 0;
+    while i < n {
+        if set_after(sheet, n, m, i) {
+            return true;
         }
-        k += 1;
+        i += 1;
     }
-    fault
+    false
 }
 
 // 0, or above the limit.
@@ -167,15 +191,15 @@ fn header_refusal(n: usize, m: usize, a: u32, b: u32) -> u8
 }
 
 // The marks are read only where they are there.
-fn body_refusal(sheet: &[u8], marks: usize) -> u8
-    requires { ⌜ headerSize ≤ length (now sheet) ⌝ }
-    requires { ⌜ marks < 65536 ⌝ }
-    ensures { λ r. ⌜ r ≡ 5 when not (eqb (length (now (sheet .entry))) (headerSize + marks)) orElse 4 when marksFault (now (sheet .entry)) marks ⌝ }
+fn body_refusal(sheet: &[u8], n: usize, m: usize) -> u8
+    requires { ⌜ Read (agentsOf (now sheet)) 256 n ⌝ }
+    requires { ⌜ Read (choresOf (now sheet)) 65536 m ⌝ }
+    ensures { λ r. ⌜ r ≡ 5 when not (eqb (length (now (sheet .entry))) (sheetLength (now (sheet .entry)))) orElse 4 when marksFault (now (sheet .entry)) ⌝ }
 {
-    if sheet.len() != model::HEADER_SIZE + marks {
+    if sheet.len() != row_start(m, n) {
         return 5;
     }
-    when(4, marks_fault(sheet, marks))
+    when(4, marks_fault(sheet, n, m))
 }
 
 // 0 for a sheet that is not turned down.
@@ -188,7 +212,7 @@ pub fn sheet_refusal(sheet: &[u8]) -> u8
     let n = agents(sheet);
     let m = chores(sheet);
     let refusal = header_refusal(n, m, easy_weight(sheet), difficult_weight(sheet));
-    or_else(refusal, body_refusal(sheet, n * m))
+    or_else(refusal, body_refusal(sheet, n, m))
 }
 
 // 8: a lent list is too short. Every call that is lent a list turns it down so.
