@@ -1,20 +1,24 @@
 -- Where the marks of a sheet lie, and what a row of them is.
 -- Assumes nothing.
-use Prim.Native.Nat.{ℕ, _+_, _*_, _-_, _/_, _%_, _≤_, _<_}
-use mathlib.Core.Bool.{cond}
+use Prim.Native.Nat.{ℕ, _+_, _*_, _-_, _/_, _%_, _^_, _≤_, _<_}
+use mathlib.Core.Bool.{true, false, cond, not}
 use mathlib.Core.List.{List}
-use mathlib.Core.Path.{_≡_, sym, ap, _∙_}
+use mathlib.Core.Path.{_≡_, refl, sym, ap, _∙_}
 use native.Mathlib.Nat.{mul-le-mul-right}
 use native.Mathlib.Omega.{arith}
+use lib.Count.{ones}
 use lib.Dec.{eqb}
 use lib.ListN.{length, getD, drop, length-drop}
 use lib.Seq.{length-take-le, getD-take, getD-drop}
 use Rattle.finite.specs.Sums.{countTo}
 use Rattle.finite.specs.Bits.{bit}
 use Rattle.finite.specs.Packed.{bitAt, bytesFor}
-use Rattle.finite.proofs.Packed.{bit-digit, count-rest, all-counted}
+use Rattle.finite.specs.Search.{anyBelow}
+use Rattle.finite.proofs.Search.{any-zero, any-intro}
+use Rattle.finite.proofs.Packed.{bit-digit, count-byte, count-rest, all-counted, set-after}
 use Rattle.model.specs.Sheet.{headerSize, agentsOf, choresOf, rowSize, rowStart, rowOf, sheetLength, isDifficult, difficultMarks, allDifficult}
-use Rattle.sheet.specs.Readers.{RowInSheet, InSheet}
+use Rattle.model.specs.Refusals.{setAfter, marksFault}
+use Rattle.sheet.specs.Readers.{Read, Whole, RowInSheet, InSheet}
 
 module _ (s : List ℕ) (i : ℕ) (long : length s ≡ sheetLength s) (agent : i < agentsOf s) where
   -- a row lies inside its sheet
@@ -25,6 +29,22 @@ module _ (s : List ℕ) (i : ℕ) (long : length s ≡ sheetLength s) (agent : i
   pub row-long : length (rowOf s i) ≡ rowSize s
   unfolding rowOf
   row-long = length-take-le (rowSize s) (drop (rowStart s i) s) (simp length-drop (let l = row-inside in omega arith))
+
+-- where a row after the last would start
+pub length-is : (s : List ℕ) {n m : ℕ} → Read (agentsOf s) 256 n → Read (choresOf s) 65536 m → headerSize + n * bytesFor m ≡ sheetLength s
+unfolding sheetLength
+length-is s a c = rw (a .is, c .is)
+
+-- for whoever reads a row, with its own number of chores
+pub whole-row : {s : List ℕ} {n m i : ℕ} → Whole s n m → i < n → headerSize + i * bytesFor m + bytesFor m ≤ length s
+whole-row {s} {i = i} w l = rw (w .chores) (row-inside s i (w .long) (rw (← w .agents) l))
+
+pub in-sheet : {s : List ℕ} {m i : ℕ} → RowInSheet s m i → headerSize + i * bytesFor m + bytesFor m ≤ length s
+in-sheet {s} {i = i} h = rw (h .chores) (row-inside s i (h .valid .long) (h .agent))
+
+-- and for a mark of it
+pub mark-inside : {s : List ℕ} {m i c : ℕ} → InSheet s m i c → headerSize + i * bytesFor m + c / 8 < length s
+mark-inside {s} {i = i} h = rw (h .chores) (omega (arith, row-inside s i (h .valid .long) (h .agent), h .chore))
 
 -- its bytes
 pub row-byte : (s : List ℕ) (i k : ℕ) → k < rowSize s → getD (rowOf s i) k 0 ≡ getD s (rowStart s i + k) 0
@@ -40,12 +60,46 @@ module _ (s : List ℕ) (i c : ℕ) (l : c < choresOf s) where
   unfolding isDifficult bitAt
   mark-bit = ap (λ x. bit x (7 - c % 8)) (row-byte s i (c / 8) byte-below)
 
--- the difficult marks of a row are the bits set in all of its bytes
+-- a mark as a digit, by its byte and the shift that takes its bit down
+pub mark-read : {s : List ℕ} {m i c : ℕ} (start : ℕ) → InSheet s m i c → start ≡ headerSize + i * bytesFor m → getD s (start + c / 8) 0 / 2 ^ (7 - c % 8) % 2 ≡ cond (isDifficult s i c) 1 0
+mark-read {s} {m} {i} {c} start h e =
+    rw (mark-bit s i c (h .chore), ← h .chores, ← e) (sym (bit-digit (getD s (start + c / 8) 0) (7 - c % 8)))
+
+-- the difficult marks of a row are the bits set in all of its bytes, counted byte by byte
 module _ {s : List ℕ} {m i : ℕ} (h : RowInSheet s m i) where
-  pub row-count : countTo (8 * rowSize s) (bitAt (rowOf s i)) ≡ difficultMarks s i
+  pub count-on : (start k count : ℕ) → start ≡ headerSize + i * bytesFor m → k < bytesFor m → getD s (start + k) 0 < 256 → count ≡ countTo (8 * k) (bitAt (rowOf s i)) → count + ones (getD s (start + k) 0) ≡ countTo (8 * (k + 1)) (bitAt (rowOf s i))
+  count-on start k count e l below so-far =
+      let same : getD (rowOf s i) k 0 ≡ getD s (start + k) 0 = row-byte s i k (rw (← h .chores) l) ∙ ap (λ r. getD s (r + k) 0) (rw (← h .chores) (sym e)) in
+      rw (so-far, ← same) (sym (count-byte (rowOf s i) k (rw same below)))
+
+  pub count-all : (count k : ℕ) → k ≡ bytesFor m → count ≡ countTo (8 * k) (bitAt (rowOf s i)) → count ≡ difficultMarks s i
   unfolding difficultMarks isDifficult
-  row-count = count-rest (bitAt (rowOf s i)) (omega arith) (λ k. h .valid .padding i k (h .agent))
+  count-all count k e so-far =
+      so-far ∙ rw (e, h .chores) (count-rest (bitAt (rowOf s i)) (omega arith) (λ j. h .valid .padding i j (h .agent)))
 
   pub all-difficult-count : allDifficult s i ≡ eqb (difficultMarks s i) m
   unfolding allDifficult difficultMarks
   all-difficult-count = rw (h .chores) (all-counted (choresOf s) (isDifficult s i))
+
+-- a set bit after the last mark
+pub none-after : {m : ℕ} (row : List ℕ) → m ≡ 0 → setAfter m row ≡ false
+unfolding setAfter
+none-after row e = rw e (any-zero _)
+
+pub last-byte-tells : {s : List ℕ} {n m i : ℕ} → Whole s n m → i < n → (m ≡ 0 → ⊥) → not (eqb (getD s (headerSize + i * bytesFor m + (bytesFor m - 1)) 0 % 2 ^ (8 * bytesFor m - m)) 0) ≡ setAfter m (rowOf s i)
+unfolding setAfter
+last-byte-tells {s} {m = m} {i} w l some =
+    let last : bytesFor m - 1 < bytesFor m = omega arith in
+    let same : getD (rowOf s i) (bytesFor m - 1) 0 ≡ getD s (headerSize + i * bytesFor m + (bytesFor m - 1)) 0 =
+    row-byte s i (bytesFor m - 1) (rw (← w .chores) last) ∙ rw (← w .chores) refl in
+    rw (← same) (sym (set-after (rowOf s i) m (omega arith)))
+
+-- in some row
+module _ {s : List ℕ} {n m : ℕ} (w : Whole s n m) where
+  pub fault-found : (i : ℕ) → i < n → setAfter m (rowOf s i) ≡ true → marksFault s ≡ true
+  unfolding marksFault
+  fault-found i l e = any-intro (λ j. setAfter (choresOf s) (rowOf s j)) i (rw (← w .agents) l) (rw (← w .chores) e)
+
+  pub fault-none : (i : ℕ) → i ≡ n → anyBelow i (λ j. setAfter m (rowOf s j)) ≡ false → marksFault s ≡ false
+  unfolding marksFault
+  fault-none i e none = rw (← w .agents, ← w .chores, ← e) none

@@ -1,54 +1,48 @@
--- `sheet::marks_fault` meets its contract. The loop's invariant: whether one of the bytes passed is no mark.
+-- `sheet::marks_fault` meets its contract. The loop's invariant: no row passed has a set bit after its last mark.
 use Prim.Native.Nat.{_-_, _≤_}
-use mathlib.Core.Path.{_≡_, sym, ap, _∙_}
-use mathlib.Core.Bool.{not}
-use mathlib.Core.Logic.{⊎-elim}
+use mathlib.Core.Bool.{false}
+use mathlib.Core.Path.{_≡_, sym, _∙_}
 use native.Mathlib.Omega.{arith}
 use borrow.Author.Needs.{needs}
-use Rattle.finite.proofs.Search.{any-zero, any-miss, any-intro}
-use Rattle.model.specs.Refusals.{marksFault}
+use Rattle.finite.specs.Search.{anyBelow}
+use Rattle.finite.proofs.Search.{any-zero, any-miss}
+use Rattle.model.specs.Sheet.{rowOf}
+use Rattle.model.specs.Refusals.{setAfter}
+use Rattle.sheet.proofs.Marks.{fault-found, fault-none}
 use Rattle.sheet.proofs.marks_fault.Statement.{statement}
 use Rattle.sheet.proofs.marks_fault.Tie as tie
 
 abbrev Inv-loop : tie.InvT-loop
-Inv-loop sheet count fault₀ k₀ fault k = (k ≤ count) × (fault ≡ marksFault sheet k)
+Inv-loop sheet n m i₀ i = (i ≤ n) × (anyBelow i (λ j. setAfter m (rowOf sheet j)) ≡ false)
 
 abbrev μ-loop : tie.MeasureT-loop
-μ-loop sheet count fault₀ k₀ fault k = count - k
+μ-loop sheet n m i₀ i = n - i
 
 loop-holds : tie.Need-loop-holds Inv-loop μ-loop
-loop-holds c = (omega arith, sym (any-zero _))
+loop-holds c = (omega arith, any-zero _)
 
-add-is-mark : tie.Need-add-is-mark Inv-loop μ-loop
-add-is-mark c = search needs
+set-after-requires : tie.Need-set-after-requires Inv-loop μ-loop
+set-after-requires c κs = search needs
 
-shared-slice-read-is-mark : tie.Need-shared-slice-read-is-mark Inv-loop μ-loop
-shared-slice-read-is-mark c = search needs
+returns : tie.Need-returns Inv-loop μ-loop
+returns c =
+    let loop = c .before .before .before .loop in
+    sym (fault-found (c .before .before .before .before .before .pre .0) (loop .i) (omega arith) (sym (c .before .set-after .ensures) ∙ c .if1 .taken))
 
-is-mark-requires : tie.Need-is-mark-requires Inv-loop μ-loop
-is-mark-requires c κs = search needs
-
-add-k : tie.Need-add-k Inv-loop μ-loop
-add-k c = search needs
+add-i : tie.Need-add-i Inv-loop μ-loop
+add-i c = search needs
 
 loop-less : tie.Need-loop-less Inv-loop μ-loop
 loop-less c = search needs
 
 loop-again : tie.Need-loop-again Inv-loop μ-loop
 loop-again c =
-    let told = sym (ap not (c .before .is-mark .ensures)) in
-    let loop = c .before .before .before .before .loop in (
-      omega arith,
-      ⊎-elim (λ w. w .1 ∙ sym (any-intro _ (loop .k) (omega arith) (told ∙ w .0 .taken)))
-          (λ w. w .1 ∙ loop .inv .1 ∙ sym (any-miss (loop .k) _ (told ∙ w .0 .left)))
-          (c .if1 .came),
-    )
+    let none = sym (c .before .set-after .ensures) ∙ c .if1 .left in
+    let loop = c .before .before .before .loop in
+    (omega arith, any-miss (loop .i) _ none ∙ loop .inv .1)
 
-returns : tie.Need-returns Inv-loop μ-loop
-returns c =
-    let k = c .before .loop .k in
-    let all : k ≡ c .before .before .before .args .count = omega arith in
-    rw all at (c .before .loop .inv .1)
+returns-2 : tie.Need-returns-2 Inv-loop μ-loop
+returns-2 c = sym (fault-none (c .before .before .before .pre .0) (c .before .loop .i) (omega arith) (c .before .loop .inv .1))
 
 pub marks-fault-spec : {M : Type 1} → statement M
 marks-fault-spec =
@@ -57,10 +51,9 @@ marks-fault-spec =
     Inv-loop
     μ-loop
     loop-holds
-    add-is-mark
-    shared-slice-read-is-mark
-    is-mark-requires
-    add-k
+    set-after-requires
+    returns
+    add-i
     loop-less
     loop-again
-    returns)
+    returns-2)

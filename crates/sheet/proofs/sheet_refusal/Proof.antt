@@ -1,17 +1,9 @@
 -- `sheet::sheet_refusal` meets its contract, by the test of the header's length.
-use Prim.Native.Nat.{_*_, _<_}
-use native.Mathlib.Nat.{mul-le-mul}
-use native.Mathlib.Omega.{arith}
 use borrow.Author.Needs.{needs}
 use borrow.Author.Tests.{lt-ltb, le-ltb}
-use Rattle.model.specs.Sheet.{sheetLength}
 use Rattle.model.specs.Refusals.{_orElse_, sheetRefusal}
 use Rattle.sheet.proofs.sheet_refusal.Statement.{statement}
 use Rattle.sheet.proofs.sheet_refusal.Tie as tie
-
--- a product of two bytes
-few-marks : (c : tie.After-chores) → c .before .agents .result * c .chores .result < 65536
-few-marks c = omega (arith, mul-le-mul (c .before .agents .ensures .below) (c .chores .ensures .below))
 
 returns : tie.Need-returns
 unfolding sheetRefusal _orElse_
@@ -32,17 +24,14 @@ difficult-weight-requires c κs = search needs
 header-refusal-requires : tie.Need-header-refusal-requires
 header-refusal-requires c κs = search needs
 
-mul-body-refusal : tie.Need-mul-body-refusal
-mul-body-refusal c = omega (arith, few-marks (c .before .before .before))
-
 body-refusal-requires : tie.Need-body-refusal-requires
-body-refusal-requires c κs = (search needs, few-marks (c .before .before .before))
+body-refusal-requires c κs = search needs
 
 or-else-requires : tie.Need-or-else-requires
 or-else-requires c κs = search needs
 
 returns-2 : tie.Need-returns-2
-unfolding sheetRefusal sheetLength _orElse_
+unfolding sheetRefusal _orElse_
 returns-2 c =
     let header = c .before .before in
     let weights = header .before in
@@ -59,7 +48,6 @@ sheet-refusal-spec =
     easy-weight-requires
     difficult-weight-requires
     header-refusal-requires
-    mul-body-refusal
     body-refusal-requires
     or-else-requires
     returns-2)
