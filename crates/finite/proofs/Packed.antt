@@ -30,11 +30,11 @@ use Rattle.finite.proofs.Bits.{bit-half, half-lt, last-digit, same-bits
 digit-test : {x : ℕ} → x < 2 → cond (eqb x 1) 1 0 ≡ x
 digit-test {x} l = by-top l (λ e. rw e) (λ h. let z : x ≡ 0 = omega arith in rw z)
 
-digit-below : (t : Bool) → cond t 1 0 < 2
+pub digit-below : (t : Bool) → cond t 1 0 < 2
 digit-below true = omega arith
 digit-below false = omega arith
 
-digit-is : (t : Bool) → eqb (cond t 1 0) 1 ≡ t
+pub digit-is : (t : Bool) → eqb (cond t 1 0) 1 ≡ t
 digit-is true = refl
 digit-is false = refl
 

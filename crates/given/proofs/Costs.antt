@@ -1,52 +1,47 @@
--- Laws of a mark and of what it costs: a mark is `e` or `d`, and a chore costs what its mark does.
+-- Laws of a mark and of what it costs: a mark is 0 or 1, and a chore costs what its mark does.
 -- Assumes nothing.
-use Prim.Native.Nat.{ℕ}
-use mathlib.Core.Bool.{true, cond}
+use Prim.Native.Nat.{ℕ, _<_}
+use mathlib.Core.Bool.{cond}
 use mathlib.Core.List.{List}
 use mathlib.Core.Path.{_≡_, sym}
 use native.Mathlib.Nat.{le-of-lt}
 use native.Mathlib.Omega.{arith}
 use lib.Dec.{eqb}
-use borrow.Author.Tests.{eqb-true}
-use Rattle.finite.proofs.Tests.{or-cases, cond-not}
+use Rattle.finite.proofs.Tests.{cond-not}
+use Rattle.finite.proofs.Below.{by-top}
+use Rattle.finite.proofs.Packed.{digit-below, digit-is}
 use Rattle.model.specs.Instance.{cost}
-use Rattle.model.specs.Sheet.{easyMark, difficultMark, easyWeight, difficultWeight, markAt, isDifficult, marksEasy, asMarked}
-use Rattle.model.specs.Refusals.{isMark}
+use Rattle.model.specs.Sheet.{easyWeight, difficultWeight, isDifficult, marksEasy, asMarked}
 use Rattle.sheet.specs.Readers.{InSheet}
 use Rattle.welfare.proofs.Costs.{cost-at-most, cost-at-least}
 use Rattle.given.specs.Given.{Marked, Costed, Cost}
 
-module _ {x : ℕ} (either : isMark x ≡ true) where
-  pub by-mark {ℓ} : {A : Type ℓ} → (x ≡ easyMark → A) → (x ≡ difficultMark → A) → A
-  unfolding isMark
-  by-mark easy difficult =
-      or-cases (eqb x easyMark) (eqb x difficultMark) either (λ e. easy (eqb-true x easyMark e)) (λ e. difficult (eqb-true x difficultMark e))
+module _ {x : ℕ} (either : x < 2) where
+  pub by-mark {ℓ} : {A : Type ℓ} → (x ≡ 0 → A) → (x ≡ 1 → A) → A
+  by-mark easy difficult = by-top either difficult (λ l. let e : x ≡ 0 = omega arith in easy e)
 
-  -- what is a for `e` and b for `d` is the cost of either mark
-  pub either-cost : {a b r : ℕ} → (x ≡ easyMark → r ≡ a) → (x ≡ difficultMark → r ≡ b) → r ≡ cond (eqb x difficultMark) b a
+  -- what is a for 0 and b for 1 is the cost of either mark
+  pub either-cost : {a b r : ℕ} → (x ≡ 0 → r ≡ a) → (x ≡ 1 → r ≡ b) → r ≡ cond (eqb x 1) b a
   either-cost easy difficult = by-mark (λ e. rw e (easy e)) (λ e. rw e (difficult e))
 
 -- a cost that was read
 module _ {s : List ℕ} {m a b i c : ℕ} (k : Costed s m a b i c) where
   pub costed-in-sheet : InSheet s m i c
   costed-in-sheet =
-      record { long = k .weighed .valid .long; chores = k .weighed .chores; agent = k .agent; chore = rw (← k .weighed .chores) (k .chore) }
+      record { valid = k .weighed .valid; chores = k .weighed .chores; agent = k .agent; chore = rw (← k .weighed .chores) (k .chore) }
 
-  pub costed-marked : Marked a b (markAt s i c)
+  pub costed-marked : Marked a b (cond (isDifficult s i c) 1 0)
   costed-marked =
       let w = k .weighed in
-      record {
-        easier = omega (arith, w .easy, w .difficult, w .valid .easier);
-        either = w .valid .marks i c (k .agent) (rw (← w .chores) (k .chore));
-      }
+      record { easier = omega (arith, w .easy, w .difficult, w .valid .easier); either = digit-below (isDifficult s i c) }
 
-  pub cost-read : {r : ℕ} → r ≡ cond (eqb (markAt s i c) difficultMark) b a → Cost (cost (asMarked s) i c) r
-  unfolding cost asMarked marksEasy isDifficult
+  pub cost-read : {r : ℕ} → r ≡ cond (eqb (cond (isDifficult s i c) 1 0) 1) b a → Cost (cost (asMarked s) i c) r
+  unfolding cost asMarked marksEasy
   cost-read {r} e =
       let w = k .weighed in
       let v = w .valid in
       let le = le-of-lt (v .easier) in
-      let is : r ≡ cost (asMarked s) i c = rw (e, w .easy, w .difficult) (sym (cond-not (isDifficult s i c) (easyWeight s) (difficultWeight s))) in
+      let is : r ≡ cost (asMarked s) i c = rw (e, digit-is (isDifficult s i c), w .easy, w .difficult) (sym (cond-not (isDifficult s i c) (easyWeight s) (difficultWeight s))) in
       record {
         is = is;
         positive = omega (arith, is, cost-at-least (asMarked s) i c le, v .easyPositive);

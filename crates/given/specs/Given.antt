@@ -1,12 +1,11 @@
 -- What is known of a sheet and a list of owners that are not turned down.
 use Prim.Native.Nat.{ℕ, _≤_, _<_}
-use mathlib.Core.Bool.{true}
 use mathlib.Core.List.{List}
 use mathlib.Core.Path.{_≡_}
 use lib.ListN.{length, getD}
 use Rattle.model.specs.Limits.{maxWeight}
 use Rattle.model.specs.Sheet.{agentsOf, choresOf, easyWeight, difficultWeight}
-use Rattle.model.specs.Refusals.{_orElse_, isMark, sheetRefusal, ownersRefusal}
+use Rattle.model.specs.Refusals.{_orElse_, sheetRefusal, ownersRefusal}
 use Rattle.sheet.specs.Valid.{Valid}
 
 -- the refusals that both checks start with: the sheet's, then its list of owners'
@@ -37,7 +36,7 @@ pub record Owned (owners : List ℕ) (c : ℕ) : Type 0 where
 -- two weights, the easy one no greater, and one of the two marks
 pub record Marked (a b mark : ℕ) : Type 0 where
   pub easier : a ≤ b
-  pub either : isMark mark ≡ true
+  pub either : mark < 2
 
 -- what is asked where a cost is read: i is one of the sheet's agents, and c one of its chores
 pub record Costed (s : List ℕ) (m a b i c : ℕ) : Type 0 where

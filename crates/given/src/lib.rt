@@ -7,7 +7,7 @@ ghost use mathlib.Core.Bool.{cond};
 ghost use lib.Dec.{eqb};
 ghost use Rattle.finite.specs.Search.{firstBelow};
 ghost use Rattle.model.specs.Instance.{cost, ownerOf};
-ghost use Rattle.model.specs.Sheet.{agentsOf, difficultMark, asMarked};
+ghost use Rattle.model.specs.Sheet.{agentsOf, asMarked};
 ghost use Rattle.model.specs.Refusals.{ownersRefusal};
 ghost use Rattle.sheet.specs.Readers.{Read};
 ghost use Rattle.given.specs.Given.{givenRefusal, Given, Owned, Marked, Costed, Cost};
@@ -52,13 +52,13 @@ pub fn owner(owners: &[u8], c: usize) -> usize
     owners[c] as usize - 1
 }
 
-// What either mark costs. Document 02, request 3: "by arithmetic without a branch: a plus the product of (b − a) and (hexadecimal 65 less
-// the mark's byte), which is 0 for `e` and 1 for `d`".
+// What either mark costs. Document 02, request 3: "by arithmetic without a branch: a plus the product of (b − a) and" the mark, which is 0 for
+// an easy one and 1 for a difficult one.
 fn mark_cost(a: u32, b: u32, mark: u8) -> u32
     requires { ⌜ Marked a b mark ⌝ }
-    ensures { λ r. ⌜ r ≡ cond (eqb mark difficultMark) b a ⌝ }
+    ensures { λ r. ⌜ r ≡ cond (eqb mark 1) b a ⌝ }
 {
-    a + (b - a) * (sheet::EASY - mark) as u32
+    a + (b - a) * mark as u32
 }
 
 // What a chore costs an agent, as marked: one of the sheet's weights `a` and `b`.

@@ -13,12 +13,18 @@ use lib.Seq.{length-take-le, getD-take, getD-drop}
 use Rattle.finite.specs.Sums.{countTo}
 use Rattle.finite.specs.Bits.{bit}
 use Rattle.finite.specs.Packed.{bitAt, bytesFor}
-use Rattle.finite.specs.Search.{anyBelow}
-use Rattle.finite.proofs.Search.{any-zero, any-intro}
+use Rattle.finite.specs.Search.{anyBelow, allBelow}
+use Rattle.finite.proofs.Tests.{not-not}
+use Rattle.finite.proofs.Search.{any-zero, any-intro, all-cong}
 use Rattle.finite.proofs.Packed.{bit-digit, count-byte, count-rest, all-counted, set-after}
-use Rattle.model.specs.Sheet.{headerSize, agentsOf, choresOf, rowSize, rowStart, rowOf, sheetLength, isDifficult, difficultMarks, allDifficult}
+use Rattle.model.specs.Sheet.{headerSize, agentsOf, choresOf, rowSize, rowStart, rowOf, sheetLength, isDifficult, marksEasy, difficultMarks, allDifficult}
 use Rattle.model.specs.Refusals.{setAfter, marksFault}
 use Rattle.sheet.specs.Readers.{Read, Whole, RowInSheet, InSheet}
+
+-- a row is all difficult where none of its marks is easy
+pub all-difficult-row : (s : List ℕ) (i : ℕ) → allDifficult s i ≡ allBelow (choresOf s) (λ c. not (marksEasy s i c))
+unfolding allDifficult marksEasy
+all-difficult-row s i = all-cong (choresOf s) (λ c _. sym (not-not (isDifficult s i c)))
 
 module _ (s : List ℕ) (i : ℕ) (long : length s ≡ sheetLength s) (agent : i < agentsOf s) where
   -- a row lies inside its sheet

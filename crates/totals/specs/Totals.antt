@@ -4,17 +4,13 @@ use mathlib.Core.List.{List}
 use mathlib.Core.Path.{_≡_}
 use lib.ListN.{length, getD, replicate}
 use Rattle.finite.specs.Lists.{Table}
-use Rattle.model.specs.Limits.{maxAgents, maxPrice}
+use Rattle.model.specs.Limits.{maxAgents, maxChores, maxPrice}
 use Rattle.model.specs.Instance.{ownerOf, priceOf}
 use Rattle.model.specs.Prices.{priceSum, dearest, priceUpToOne}
 
--- More chores than there may be yet: so many prices of 1,000,000 still have a sum of 32 bits.
-abbrev pub mostChores : ℕ
-mostChores = 4000
-
--- at most so many chores, each with an owner from 1 to 32 and a price up to 1,000,000
+-- as many chores as there may be, each with an owner from 1 to 32 and a price up to 1,000,000: so many prices have a sum of 32 bits
 pub record Held (owners prices : List ℕ) : Type 0 where
-  pub chores : length owners ≤ mostChores
+  pub chores : length owners ≤ maxChores
   pub pricesSized : length prices ≡ length owners
   pub numbered : (c : ℕ) → c < length owners → 0 < getD owners c 0
   pub known : (c : ℕ) → c < length owners → getD owners c 0 ≤ maxAgents

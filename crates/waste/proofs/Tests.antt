@@ -26,15 +26,15 @@ use Rattle.waste.specs.Tests.{shares, takes, wasted, passable, OnSheet, 
 module _ {s : List ℕ} {n m c : ℕ} (o : OnSheet s n m c) where
   pub on-sheet : {j : ℕ} → j < n → InSheet s m j c
   on-sheet l =
-      record { long = o .valid .long; chores = o .chores; agent = omega (arith, o .agents); chore = omega (arith, o .chores, o .chore) }
+      record { valid = o .valid; chores = o .chores; agent = omega (arith, o .agents); chore = omega (arith, o .chores, o .chore) }
 
 module _ {s : List ℕ} {m i j c : ℕ} (o : BothOnSheet s m i j c) where
   pub one-on-sheet : InSheet s m i c
-  one-on-sheet = record { long = o .valid .long; chores = o .chores; agent = o .one; chore = omega (arith, o .chores, o .chore) }
+  one-on-sheet = record { valid = o .valid; chores = o .chores; agent = o .one; chore = omega (arith, o .chores, o .chore) }
 
   pub other-on-sheet : InSheet s m j c
   other-on-sheet =
-      record { long = o .valid .long; chores = o .chores; agent = o .other; chore = omega (arith, o .chores, o .chore) }
+      record { valid = o .valid; chores = o .chores; agent = o .other; chore = omega (arith, o .chores, o .chore) }
 
 module _ {s owners : List ℕ} {n m : ℕ} (g : Given s owners n m) where
   pub given-on-sheet : {c : ℕ} → c < m → OnSheet s n m c

@@ -16,7 +16,7 @@ use Rattle.finite.proofs.Tests.{clash, by-cond, cond-true, cond-false}
 use Rattle.finite.proofs.Where.{where-cong, where-cut}
 use Rattle.finite.proofs.Lists.{picks-take, picks-drop, list-none-intro}
 use Rattle.model.specs.Instance.{Instance, cost, ownerOf}
-use Rattle.model.specs.Sheet.{isDifficult, marksEasy, asMarked}
+use Rattle.model.specs.Sheet.{marksEasy, asMarked}
 use Rattle.model.specs.Strands.{joinedChores, joinedSheet}
 use Rattle.model.specs.Fairness.{owns, total, costTo, isAllocation, dominates, dominated}
 use Rattle.model.specs.Algorithm.{State}
@@ -127,7 +127,7 @@ module _ {I J K : Instance} (joins : Joins I J K) where
 
 -- two strands that can be joined, and the sheet that they make
 sheets-joined : {first second : List ℕ} → Joinable first second → Joins (asMarked first) (asMarked second) (asMarked (joinedSheet first second))
-unfolding asMarked cost marksEasy isDifficult joinedChores
+unfolding asMarked cost marksEasy joinedChores
 sheets-joined fit =
     record {
       agents-first = joined-agents fit;

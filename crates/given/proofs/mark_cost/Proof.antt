@@ -7,12 +7,6 @@ use Rattle.given.proofs.mark_cost.Tie as tie
 sub-result : tie.Need-sub-result
 sub-result c = c .pre .easier
 
-sub-result-2 : tie.Need-sub-result-2
-sub-result-2 c = by-mark (c .pre .either) (λ e. omega (arith, e)) (λ e. omega (arith, e))
-
-cast-result : tie.Need-cast-result
-cast-result c = by-mark (c .pre .either) (λ e. omega (arith, e)) (λ e. omega (arith, e))
-
 mul-result : tie.Need-mul-result
 mul-result c = by-mark (c .pre .either) (λ e. rw e (omega arith)) (λ e. rw e (omega arith))
 
@@ -24,4 +18,4 @@ returns c = either-cost (c .pre .either) (λ e. rw e (omega arith)) (λ e. rw e 
 
 pub mark-cost-spec : {M : Type 1} → statement M
 mark-cost-spec =
-    tie.close (tie.spec sub-result sub-result-2 cast-result mul-result add-result returns)
+    tie.close (tie.spec sub-result mul-result add-result returns)
