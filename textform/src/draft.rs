@@ -1,13 +1,16 @@
 //! A sheet whose lines are being read.
 
 use crate::lines::Fault;
-use crate::sheet::{Agent, Mark, Sheet, MAX_AGENTS, MAX_CHORES, MAX_WEIGHT};
+use crate::sheet::{are_weights, Agent, Mark, Sheet, MAX_AGENTS, MAX_CHORES, MAX_WEIGHT};
+use std::collections::HashSet;
 
 pub struct Draft {
     line: usize,
     title: String,
     weights: Option<(u16, u16)>,
     chores: Vec<String>,
+    /// The same titles, to look one up.
+    titles: HashSet<String>,
     agents: Vec<Agent>,
 }
 
@@ -18,6 +21,7 @@ impl Draft {
             title,
             weights: None,
             chores: Vec::new(),
+            titles: HashSet::new(),
             agents: Vec::new(),
         }
     }
@@ -44,7 +48,7 @@ impl Draft {
         if !self.agents.is_empty() {
             return Err("a reel after a person; all reels come before the people".to_string());
         }
-        if self.chores.iter().any(|other| other == title) {
+        if !self.titles.insert(title.to_string()) {
             return Err(format!("this sheet already has a reel `{title}`"));
         }
         if self.chores.len() == MAX_CHORES {
@@ -114,9 +118,7 @@ fn parse_weights(rest: &str) -> Option<(u16, u16)> {
     let words = rest.split([' ', ',']).filter(|word| !word.is_empty());
     let weights: Vec<u16> = words.map(|word| word.parse().ok()).collect::<Option<_>>()?;
     match weights[..] {
-        [easy, difficult] if 1 <= easy && easy < difficult && difficult <= MAX_WEIGHT => {
-            Some((easy, difficult))
-        }
+        [easy, difficult] if are_weights(easy, difficult) => Some((easy, difficult)),
         _ => None,
     }
 }

@@ -24,12 +24,17 @@
 //! chore. Texts and prints count them from 1, everything inside from 0.
 
 pub mod book;
+pub mod bytes;
+pub mod convert;
 pub mod draft;
 pub mod forms;
+pub mod instance;
 pub mod lines;
 pub mod lists;
 pub mod moves;
 pub mod names;
+pub mod old_sheet;
+pub mod packed;
 pub mod print;
 pub mod refusal;
 pub mod result;

@@ -1,16 +1,18 @@
-//! `textform book < text > book`, and `textform names text < result` or
-//! `textform why text < result`.
+//! `textform book < text > book`, `textform names text < result`,
+//! `textform why text < result` and `textform convert < old > book`.
 
 use std::fs;
 use std::io::{self, Read, Write};
 use std::process::ExitCode;
+use textform::instance::Instance;
 use textform::result::{BookResult, Told};
 use textform::sheet::Sheet;
-use textform::{book, names, result, text, why};
+use textform::{book, convert, names, result, text, why};
 
 const USAGE: &str = "usage: textform book < TEXT > BOOK
        textform names TEXT < RESULT
-       textform why TEXT < RESULT";
+       textform why TEXT < RESULT
+       textform convert < OLD_BOOK > BOOK";
 
 fn main() -> ExitCode {
     let words: Vec<String> = std::env::args().skip(1).collect();
@@ -19,6 +21,7 @@ fn main() -> ExitCode {
         ["book"] => book(),
         ["names", path] => with_names(path, names::print),
         ["why", path] => with_names(path, why::print),
+        ["convert"] => convert(),
         _ => {
             eprintln!("{USAGE}");
             return ExitCode::from(2);
@@ -35,7 +38,13 @@ fn main() -> ExitCode {
 
 fn book() -> Result<(), String> {
     let sheets = text::read(&read_input()?).map_err(|fault| fault.to_string())?;
-    write(&book::compose(&sheets))
+    let instances: Vec<Instance> = sheets.iter().map(Instance::from).collect();
+    write(&book::compose(&instances))
+}
+
+/// Packs the sheets of the old book on standard input.
+fn convert() -> Result<(), String> {
+    write(&convert::rewrite(&read_input()?)?)
 }
 
 /// Prints the result on standard input with the names of the text.

@@ -18,9 +18,9 @@ impl fmt::Display for Refusal {
 pub fn of_sheet(number: u8) -> Option<Refusal> {
     let reason = match number {
         1 => "the sheet has no people, or more than 32",
-        2 => "the sheet has more than 200 reels",
+        2 => "the sheet has more than 4000 reels",
         3 => "the weights are not 1 <= easy < difficult <= 1000",
-        4 => "a mark is neither e nor d",
+        4 => "a bit is set after the last reel of a row",
         5 => "the sheet's length does not fit its people and reels",
         8 => "too little memory was lent",
         _ => return None,

@@ -3,13 +3,17 @@
 /// Agents of a sheet: 1 to this.
 pub const MAX_AGENTS: usize = 32;
 /// Chores of a sheet: 0 to this.
-pub const MAX_CHORES: usize = 200;
+pub const MAX_CHORES: usize = 4_000;
 /// The difficult weight is at most this.
 pub const MAX_WEIGHT: u16 = 1_000;
 /// Sheets of a book: 1 to this.
 pub const MAX_SHEETS: usize = 16;
 /// Bytes of a book: 1 to this.
 pub const MAX_BOOK_BYTES: usize = 65_535;
+
+pub fn are_weights(easy: u16, difficult: u16) -> bool {
+    1 <= easy && easy < difficult && difficult <= MAX_WEIGHT
+}
 
 #[derive(Debug, Clone, Copy, PartialEq, Eq)]
 pub enum Mark {
@@ -23,13 +27,6 @@ impl Mark {
             'e' | 'E' => Some(Mark::Easy),
             'd' | 'D' => Some(Mark::Difficult),
             _ => None,
-        }
-    }
-
-    pub fn byte(self) -> u8 {
-        match self {
-            Mark::Easy => b'e',
-            Mark::Difficult => b'd',
         }
     }
 

@@ -9,25 +9,35 @@ use crate::sheet::Sheet;
 pub fn print(sheets: &[Sheet], result: &BookResult<Run>) -> String {
     print::print(sheets, result, |sheet, run| match sheet.chores.len() {
         0 => "  No reels\n".to_string(),
-        chores => (0..chores)
-            .map(|chore| history(sheet, chore, run))
-            .collect(),
+        chores => {
+            let hands = hands(sheet, &run.moves);
+            (0..chores)
+                .map(|chore| history(sheet, chore, run, &hands[chore]))
+                .collect()
+        }
     })
 }
 
-/// Who has the chore, with whom it opened, and each hand it went through.
-fn history(sheet: &Sheet, chore: usize, run: &Run) -> String {
+/// The hands that each chore went through.
+fn hands(sheet: &Sheet, moves: &[Move]) -> Vec<String> {
+    let mut hands = vec![String::new(); sheet.chores.len()];
+    for next in moves {
+        hands[next.chore] += &hand(&sheet.agents[next.receiver].name, next);
+    }
+    hands
+}
+
+/// Who has the chore, with whom it opened, and the hands it went through.
+fn history(sheet: &Sheet, chore: usize, run: &Run, hands: &str) -> String {
     let name = |agent: usize| &sheet.agents[agent].name;
     let (title, owner) = (&sheet.chores[chore], name(run.lists.owners[chore]));
     let opening = format!(
         "  {title}: {owner}\n    opened with {}",
         name(run.opening[chore])
     );
-    let moves = run.moves.iter().filter(|next| next.chore == chore);
-    let hands = moves.map(|next| hand(name(next.receiver), next));
-    match hands.collect::<String>().as_str() {
+    match hands {
         "" => opening + ", and stayed\n",
-        hands => opening + "\n" + hands,
+        _ => opening + "\n" + hands,
     }
 }
 

@@ -70,7 +70,7 @@ fn somebody_without_reels() {
 fn refused_sheet() {
     let text = SHEET_C.to_string() + "\nsheet Late show\nweights 1 3\nperson Ada:\n";
     let result = RESULT_OF_C.replace("total", "sheet 2 refused 4\ntotal");
-    let block = "\n\nSheet 2: Late show\n  Refused (4): a mark is neither e nor d.\n\nTotal";
+    let block = "\n\nSheet 2: Late show\n  Refused (4): a bit is set after the last reel of a row.\n\nTotal";
     let expected = NAMES_OF_C.replace("\n\nTotal", block);
     assert_eq!(names(&text, &result).unwrap(), expected);
 }
@@ -79,9 +79,9 @@ fn refused_sheet() {
 fn every_sheet_refused() {
     for (number, part) in [
         (1, "people"),
-        (2, "200 reels"),
+        (2, "4000 reels"),
         (3, "weights"),
-        (4, "mark"),
+        (4, "bit is set"),
         (5, "length"),
         (8, "memory"),
     ] {
@@ -119,6 +119,22 @@ fn sixteen_sheets() {
     );
     assert!(print.contains("\nSheet 16\n"));
     assert!(print.ends_with("  16 moves, 1 price cut\n\nTotal: 136 moves, 16 price cuts\n"));
+}
+
+#[test]
+fn four_thousand_reels() {
+    let owners: String = (0..4000)
+        .map(|chore| format!(" {}", chore % 32 + 1))
+        .collect();
+    let prices: String = (1..=4000).map(|price| format!(" {price}")).collect();
+    let result =
+        format!("sheet 1 moves 0 cuts 0\nowners{owners}\nprices{prices}\ntotal moves 0 cuts 0\n");
+    let print = names(&plain_sheet(32, 4000), &result).unwrap();
+    // Each reel once.
+    assert_eq!(print.matches("\n    R").count(), 4000);
+    // 32, 64, ... 4000.
+    assert!(print.contains("\n  P32: 125 reels, price 252000\n    R32 (easy, price 32)\n"));
+    assert!(print.contains("\n    R4000 (easy, price 4000)\n  0 moves, 0 price cuts\n"));
 }
 
 #[test]

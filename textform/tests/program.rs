@@ -5,7 +5,6 @@ mod common;
 use common::{NAMES_OF_C, RESULT_OF_C, RUN_OF_C, SHEET_C, WHY_OF_C};
 use std::io::Write;
 use std::process::{Command, Output, Stdio};
-use textform::book;
 
 const PATH_OF_C: &str = concat!(env!("CARGO_MANIFEST_DIR"), "/../examples/sheet-c.txt");
 
@@ -39,8 +38,7 @@ fn assert_error(words: &[&str], input: &[u8], status: i32, start: &str) {
 
 #[test]
 fn book_and_names_of_c() {
-    let book = book::compose(&common::sheets(SHEET_C));
-    assert_writes(&["book"], SHEET_C.as_bytes(), &book);
+    assert_writes(&["book"], SHEET_C.as_bytes(), &common::book(SHEET_C));
     let words = ["names", PATH_OF_C];
     assert_writes(&words, RESULT_OF_C.as_bytes(), NAMES_OF_C.as_bytes());
 }
@@ -49,6 +47,23 @@ fn book_and_names_of_c() {
 fn why_of_c() {
     let words = ["why", PATH_OF_C];
     assert_writes(&words, RUN_OF_C.as_bytes(), WHY_OF_C.as_bytes());
+}
+
+#[test]
+fn convert_of_c() {
+    let old = b"\x01\x00\x05\x00\x10\x02\x05\x00\x01\x00\x03eeeeedddde";
+    assert_writes(&["convert"], old, &common::book(SHEET_C));
+}
+
+/// The first of two sheets is a good one, and still nothing is written.
+#[test]
+fn errors_of_convert() {
+    let no_book = "textform: this is no book: it is empty\n";
+    assert_error(&["convert"], b"", 1, no_book);
+    let old = b"\x02\x00\x09\x00\x07\x00\x10\x00\x07\
+                \x01\x01\x00\x01\x00\x03e\x01\x01\x00\x01\x00\x03x";
+    let no_sheet = "textform: sheet 2 is no old sheet: mark 1 of person 1 is hexadecimal 78";
+    assert_error(&["convert"], old, 1, no_sheet);
 }
 
 #[test]
@@ -82,6 +97,7 @@ fn usage() {
         &["names", "a", "b"],
         &["why"],
         &["why", "a", "b"],
+        &["convert", "a"],
         &["name"],
     ] {
         assert_error(words, b"", 2, "usage: textform book");

@@ -7,9 +7,11 @@ use textform::sheet::{Mark, Sheet};
 
 /// A sheet's rows as letters.
 fn rows(sheet: &Sheet) -> Vec<String> {
-    let letters = |marks: &[Mark]| marks.iter().map(|mark| char::from(mark.byte())).collect();
+    let letter = |mark: &Mark| &mark.word()[..1];
     let agents = sheet.agents.iter();
-    agents.map(|agent| letters(&agent.marks)).collect()
+    agents
+        .map(|agent| agent.marks.iter().map(letter).collect())
+        .collect()
 }
 
 fn names(sheet: &Sheet) -> Vec<&str> {
@@ -98,6 +100,6 @@ fn sheets_are_apart() {
 
 #[test]
 fn the_largest_sheet() {
-    let sheet = &sheets(&plain_sheet(32, 200))[0];
-    assert_eq!((sheet.agents.len(), sheet.chores.len()), (32, 200));
+    let sheet = &sheets(&plain_sheet(32, 4000))[0];
+    assert_eq!((sheet.agents.len(), sheet.chores.len()), (32, 4000));
 }

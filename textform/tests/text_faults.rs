@@ -2,7 +2,7 @@
 
 mod common;
 
-use common::{assert_fault, plain_sheet};
+use common::{assert_fault, book, plain_sheet};
 use textform::lines::Fault;
 use textform::text;
 
@@ -133,27 +133,31 @@ fn people() {
 fn people_reels_and_sheets_above_their_limits() {
     let people = fault(&plain_sheet(33, 2));
     assert_fault(people, 2 + 2 + 33, "at most 32 people");
-    let reels = fault(&plain_sheet(1, 201));
-    assert_fault(reels, 2 + 201, "at most 200 reels");
+    let reels = fault(&plain_sheet(1, 4001));
+    assert_fault(reels, 2 + 4001, "at most 4000 reels");
     let sheets = fault(&plain_sheet(1, 0).repeat(17));
     assert_fault(sheets, 3 * 16 + 1, "at most 16 sheets");
 }
 
-/// Sixteen sheets; with 6 agents and 29 chores in the last, 65,535 bytes.
+/// Six sheets; with a last one of 475 bytes, 65,535 in all.
 fn long_text(last_agents: usize, last_chores: usize) -> String {
-    let full = plain_sheet(32, 200).repeat(10) + &plain_sheet(6, 200);
-    full + &plain_sheet(1, 0).repeat(4) + &plain_sheet(last_agents, last_chores)
+    let full = plain_sheet(32, 4000).repeat(4) + &plain_sheet(2, 4000);
+    full + &plain_sheet(last_agents, last_chores)
 }
 
 #[test]
 fn book_above_its_limit() {
-    let longest = text::read(long_text(6, 29).as_bytes()).unwrap();
-    assert_eq!(textform::book::compose(&longest).len(), 65_535);
-    let line = 10 * (2 + 232) + (2 + 206) + 4 * 3 + 1;
-    let longer = fault(&long_text(7, 25));
+    // Rows of 117 bytes, with and without bits left over.
+    for chores in [929, 936] {
+        assert_eq!(book(&long_text(4, chores)).len(), 65_535);
+    }
+    let line = 4 * (2 + 4032) + (2 + 4002) + 1;
+    let longer = fault(&long_text(7, 529));
     assert_fault(longer, line, "over 65535 bytes");
-    let far_longer = fault(&plain_sheet(32, 200).repeat(16));
-    assert_fault(far_longer, 10 * 234 + 1, "over 65535 bytes");
+    let wider = fault(&long_text(4, 937));
+    assert_fault(wider, line, "over 65535 bytes");
+    let far_longer = fault(&plain_sheet(32, 4000).repeat(16));
+    assert_fault(far_longer, 4 * 4034 + 1, "over 65535 bytes");
 }
 
 #[test]

@@ -118,25 +118,52 @@ fn no_reels_and_no_title() {
 
 #[test]
 fn the_largest_numbers() {
-    let mut result = "sheet 1 moves 1 cuts 31\nopening".to_string() + &" 1".repeat(200);
-    result += "\nreel 200 from 1 to 32 round 32 step 1\n";
+    let mut result = "sheet 1 moves 1 cuts 31\nopening".to_string() + &" 1".repeat(4000);
+    result += "\nreel 4000 from 1 to 32 round 32 step 1\n";
     result += &format!(
         "owners{} 32\nprices{}\n",
-        " 1".repeat(199),
-        " 3".repeat(200)
+        " 1".repeat(3999),
+        " 3".repeat(4000)
     );
     result += "total moves 1 cuts 31\n";
-    let print = why(&plain_sheet(32, 200), &result).unwrap();
-    let last = "  R200: P32\n    opened with P1\n    \
+    let print = why(&plain_sheet(32, 4000), &result).unwrap();
+    let last = "  R4000: P32\n    opened with P1\n    \
                 to P32 in round 32, evening out between groups\n  1 move, 31 price cuts\n";
     assert!(print.contains(last), "{print}");
+}
+
+/// As many moves as `why` has a record for; each reel goes from hand to hand
+/// and back.
+#[test]
+fn twenty_thousand_moves() {
+    let mut result = "sheet 1 moves 20000 cuts 0\nopening".to_string() + &" 1".repeat(4000);
+    for (giver, receiver) in [(1, 2), (2, 3), (3, 4), (4, 5), (5, 1)] {
+        for reel in 1..=4000 {
+            result += &format!("\nreel {reel} from {giver} to {receiver} round 1 step 2");
+        }
+    }
+    result += &format!(
+        "\nowners{}\nprices{}\n",
+        " 1".repeat(4000),
+        " 3".repeat(4000)
+    );
+    result += "total moves 20000 cuts 0\n";
+    let print = why(&plain_sheet(5, 4000), &result).unwrap();
+    let hands: String = [2, 3, 4, 5, 1]
+        .map(|person| format!("    to P{person} in round 1\n"))
+        .concat();
+    for reel in [1, 2, 3999, 4000] {
+        let history = format!("  R{reel}: P1\n    opened with P1\n{hands}");
+        assert!(print.contains(&history), "{reel}");
+    }
+    assert_eq!(print.matches("\n    to ").count(), 20000);
 }
 
 #[test]
 fn refused_sheet() {
     let text = SHEET_C.to_string() + "\nsheet Late show\nweights 1 3\nperson Ada:\n";
     for (number, reason) in [
-        (4, "a mark is neither e nor d"),
+        (4, "a bit is set after the last reel of a row"),
         (11, "the record is too short for the run's moves"),
     ] {
         let result = RUN_OF_C.replace("total", &format!("sheet 2 refused {number}\ntotal"));

@@ -3,6 +3,8 @@
 // Not every test file uses all of it.
 #![allow(dead_code)]
 
+use textform::book;
+use textform::instance::Instance;
 use textform::lines::Fault;
 use textform::result::{self, BookResult, Told};
 use textform::sheet::Sheet;
@@ -68,6 +70,70 @@ Total: 3 moves, 1 price cut
 /// The sheets of a text that must be readable.
 pub fn sheets(text: &str) -> Vec<Sheet> {
     text::read(text.as_bytes()).expect("the text can be read")
+}
+
+/// The book of a text that must be readable.
+pub fn book(text: &str) -> Vec<u8> {
+    let instances: Vec<Instance> = sheets(text).iter().map(Instance::from).collect();
+    book::compose(&instances)
+}
+
+/// The bodies of a book, by its contents.
+pub fn bodies(book: &[u8]) -> Vec<&[u8]> {
+    let count = usize::from(book[0]);
+    let entries = book[1..1 + 4 * count].chunks(4);
+    let mut end = 1 + 4 * count;
+    let mut bodies = Vec::new();
+    for entry in entries {
+        let start = usize::from(entry[0]) * 256 + usize::from(entry[1]);
+        let length = usize::from(entry[2]) * 256 + usize::from(entry[3]);
+        assert_eq!(start, end);
+        end = start + length;
+        bodies.push(&book[start..end]);
+    }
+    assert_eq!(end, book.len());
+    bodies
+}
+
+/// Weights and rows of letters.
+pub type Letters = (u16, u16, Vec<String>);
+
+/// What a packed sheet says, bit by bit. Bits after the last chore must be 0.
+pub fn unpack(body: &[u8]) -> Letters {
+    let number = |place: usize| u16::from(body[place]) * 256 + u16::from(body[place + 1]);
+    let chores = usize::from(number(1));
+    let width = 8 * (chores / 8 + usize::from(chores % 8 > 0));
+    let bits: Vec<bool> = (56..8 * body.len())
+        .map(|bit| body[bit / 8] & (128 >> (bit % 8)) != 0)
+        .collect();
+    assert_eq!(bits.len(), usize::from(body[0]) * width);
+    let row = |agent: usize| {
+        let (marks, rest) = bits[agent * width..][..width].split_at(chores);
+        assert!(!rest.contains(&true));
+        let letters = marks.iter().map(|&bit| if bit { 'd' } else { 'e' });
+        letters.collect()
+    };
+    let rows = (0..usize::from(body[0])).map(row).collect();
+    (number(3), number(5), rows)
+}
+
+/// A sheet as it was, a byte for each mark.
+pub fn old_sheet((easy, difficult, rows): &Letters) -> Vec<u8> {
+    let sizes = [rows.len() as u8, rows[0].len() as u8];
+    let weights = [easy.to_be_bytes(), difficult.to_be_bytes()].concat();
+    [&sizes, &weights[..], rows.concat().as_bytes()].concat()
+}
+
+/// A book of these bodies, whatever they are.
+pub fn book_of(bodies: &[Vec<u8>]) -> Vec<u8> {
+    let mut start = 1 + 4 * bodies.len();
+    let mut contents = vec![bodies.len() as u8];
+    for body in bodies {
+        contents.extend((start as u16).to_be_bytes());
+        contents.extend((body.len() as u16).to_be_bytes());
+        start += body.len();
+    }
+    [contents, bodies.concat()].concat()
 }
 
 /// A result of `shares` with names, or its fault.
