@@ -34,17 +34,21 @@ include ctests/ctests.mk install.mk
 cases:
 	@cargo run --offline --quiet --release --manifest-path reference/Cargo.toml -- cases | diff crates/cases/stdout -
 
-# The stored books, through the second program, through `shares` and `why`, and once more with every access watched.
+# Books through the second program, through `shares` and `why`, and once more with every access watched: each with its stored text, and one that
+# fills the long lists, whose text must be the same from all three.
 WATCHED := valgrind --quiet --error-exitcode=1
+SECOND := reference/target/release/reference
 
 books:
 	@$(CARGO_BUILD) reference/Cargo.toml
-	@tests/books/check out reference/target/release/reference shares
+	@tests/books/check out $(SECOND) shares
 	@tests/books/check out target/bin/shares
 	@tests/books/check out $(WATCHED) target/bin/shares
-	@tests/books/check why reference/target/release/reference why
+	@tests/books/agree "$(SECOND) shares" target/bin/shares "$(WATCHED) target/bin/shares"
+	@tests/books/check why $(SECOND) why
 	@tests/books/check why target/bin/why
 	@tests/books/check why $(WATCHED) target/bin/why
+	@tests/books/agree "$(SECOND) why" target/bin/why "$(WATCHED) target/bin/why"
 
 # The arguments of `shares` and `why`, and what they say where they cannot read or write.
 program:
