@@ -1,5 +1,5 @@
 //! Text into a book of sheets, and what `shares` and `why` print back into
-//! names.
+//! names. Also books of before release 6.2.9 into books of today.
 //!
 //! The text form, line by line:
 //!

@@ -2,7 +2,8 @@
 
 mod common;
 
-use common::{NAMES_OF_C, RESULT_OF_C, RUN_OF_C, WHY_OF_C};
+use common::{book, book_of, old_sheet, FESTIVAL, NAMES_OF_C, RESULT_OF_C, RUN_OF_C, WHY_OF_C};
+use textform::convert::rewrite;
 
 #[test]
 fn examples() {
@@ -16,4 +17,18 @@ fn examples() {
         }
     }
     assert!(include_str!("../../man/why.1").contains(RUN_OF_C));
+}
+
+#[test]
+fn errors_of_convert() {
+    let sheets = ["e", "x"].map(|row| old_sheet(&(1, 3, vec![row.to_string()])));
+    let books = [
+        book_of(&sheets),
+        book(FESTIVAL),
+        FESTIVAL.as_bytes().to_vec(),
+    ];
+    for book in books {
+        let line = format!("\ntextform: {}\n", rewrite(&book).unwrap_err());
+        assert!(include_str!("../README.md").contains(&line), "{line}");
+    }
 }
