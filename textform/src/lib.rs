@@ -1,5 +1,5 @@
 //! Text into a book of sheets, and what `shares` and `why` print back into
-//! names. Also books of before release 6.2.9 into books of today.
+//! names; also old books, of before release 6.2.9, into packed ones.
 //!
 //! The text form, line by line:
 //!
