@@ -6,10 +6,11 @@
  *
  * Agents, chores and the sheets of a book are numbered from 1.
  *
- * A sheet is bytes: the number of agents n, the number of chores m, the easy
- * weight a in two bytes, the difficult weight b in two bytes, then n rows of m
- * marks, 'e' for easy and 'd' for difficult. Numbers of several bytes have
- * their high byte first, here as everywhere below.
+ * A sheet is bytes: the number of agents n in one byte; the number of chores m,
+ * the easy weight a and the difficult weight b in two bytes each; then n rows of
+ * m marks, one bit a mark, 0 for easy and 1 for difficult, the high bit of a byte
+ * first. Each row starts on a fresh byte, and the bits after its last chore are 0.
+ * Numbers of several bytes have their high byte first, here as everywhere below.
  *
  * A book is bytes: the number of sheets, then for each sheet where it starts
  * and how long it is, two bytes each, then the sheets, one after the other.
@@ -45,20 +46,21 @@ extern "C" {
 #endif
 
 /* The release that this header is of. */
-#define SHARES_VERSION "6.2.8"
+#define SHARES_VERSION "6.2.9"
 #define SHARES_VERSION_MAJOR 6
 #define SHARES_VERSION_MINOR 2
-#define SHARES_VERSION_PATCH 8
+#define SHARES_VERSION_PATCH 9
 
-/* Limits: 1 to 32 agents, 0 to 200 chores, 1 <= a < b <= 1,000. */
+/* Limits: 1 to 32 agents, 0 to 4,000 chores, 1 <= a < b <= 1,000. */
 #define SHARES_MAX_AGENTS 32
-#define SHARES_MAX_CHORES 200
+#define SHARES_MAX_CHORES 4000
 #define SHARES_MAX_WEIGHT 1000
-/* The bytes of a sheet before its marks, and of a whole sheet of n agents and m
- * chores. */
-#define SHARES_HEADER_BYTES 6
-#define SHARES_SHEET_BYTES(n, m) (SHARES_HEADER_BYTES + SHARES_AS(size_t, n) * SHARES_AS(size_t, m))
-/* The bytes of the longest sheet, 6,406. */
+/* The bytes of a sheet before its rows, of a row of m marks, and of a whole sheet
+ * of n agents and m chores. */
+#define SHARES_HEADER_BYTES 7
+#define SHARES_ROW_BYTES(m) ((SHARES_AS(size_t, m) + 7) / 8)
+#define SHARES_SHEET_BYTES(n, m) (SHARES_HEADER_BYTES + SHARES_AS(size_t, n) * SHARES_ROW_BYTES(m))
+/* The bytes of the longest sheet, 16,007. */
 #define SHARES_MAX_SHEET SHARES_SHEET_BYTES(SHARES_MAX_AGENTS, SHARES_MAX_CHORES)
 /* A price handed to shares_check_prices is 1 to this. */
 #define SHARES_MAX_PRICE 1000000
@@ -71,22 +73,23 @@ extern "C" {
 #define SHARES_BOOK_SHEETS 16
 #define SHARES_MAX_BOOK 65535
 /* The least entries of each long list for a book. */
-#define SHARES_BOOK_ENTRIES 3200
+#define SHARES_BOOK_ENTRIES 64000
 
 /* The most moves of a share-out of n agents and m chores, whatever its weights
- * and marks: n (n - 1) m, which is 1,800 at 6 x 60 and 198,400 at 32 x 200. It
- * is proved. How long they take is not: on one machine the slowest of some 1,300
- * sheets of 32 x 200 took 1.3 microseconds a move, and at that rate 198,400 take
- * about a quarter of a second, and the 1,800 of 6 x 60 less than a millisecond. */
+ * and marks: n (n - 1) m, which is 1,800 at 6 x 60, 198,400 at 32 x 200 and
+ * 3,968,000 at 32 x 4,000. It is proved. How long they take is not: on one machine
+ * the slowest of some 1,300 sheets of 32 x 200 took 1.3 microseconds a move, and
+ * at that rate 198,400 take about a quarter of a second, and the 1,800 of 6 x 60
+ * less than a millisecond. */
 #define SHARES_MOST_MOVES(n, m) (SHARES_AS(uint64_t, n) * (SHARES_AS(uint64_t, n) - 1) * SHARES_AS(uint64_t, m))
 
 /* The most stack that each call takes, in bytes, on x86-64. */
-#define SHARES_STACK_ALLOCATE 3072
-#define SHARES_STACK_ALLOCATE_RECORDED 4096
+#define SHARES_STACK_ALLOCATE 40960
+#define SHARES_STACK_ALLOCATE_RECORDED 65536
 #define SHARES_STACK_CHECK_LIST 512
-#define SHARES_STACK_CHECK_PRICES 2048
+#define SHARES_STACK_CHECK_PRICES 20480
 #define SHARES_STACK_FIND_SHEET 512
-#define SHARES_STACK_ALLOCATE_BOOK 16384
+#define SHARES_STACK_ALLOCATE_BOOK 65536
 #define SHARES_STACK_JOIN 512
 #define SHARES_STACK_SHOW_MARKS 512
 
@@ -95,10 +98,10 @@ extern "C" {
  * and that includes every result behind a pointer. */
 #define SHARES_OK 0
 #define SHARES_BAD_AGENTS 1      /* n is 0 or above 32 */
-#define SHARES_BAD_CHORES 2      /* m is above 200, of one sheet or two together */
+#define SHARES_BAD_CHORES 2      /* m is above 4,000, of one sheet or two together */
 #define SHARES_BAD_WEIGHTS 3     /* a is 0, b <= a, or b is above 1,000 */
-#define SHARES_BAD_MARK 4        /* a mark other than 'e' and 'd' */
-#define SHARES_BAD_LENGTH 5      /* a sheet of other than 6 + n * m bytes */
+#define SHARES_BAD_PADDING 4     /* a set bit after the last chore of a row */
+#define SHARES_BAD_LENGTH 5      /* a sheet of other than 7 + n * ((m + 7) / 8) bytes */
 #define SHARES_BAD_OWNER_COUNT 6 /* an owner list of other than m entries */
 #define SHARES_BAD_OWNER 7       /* an owner of 0 or above n */
 #define SHARES_SHORT_LIST 8      /* a lent list or the scratch is too short */
@@ -117,7 +120,7 @@ extern "C" {
  * chores handed over, *cuts the number of price cuts. *moves is at most
  * SHARES_MOST_MOVES(n, m), and at most (n - 1) * m for each round; there is one
  * round more than cuts.
- * Returns a refusal number: 5 for a sheet of fewer than 6 bytes, 1, 2, 3, 5, 4,
+ * Returns a refusal number: 5 for a sheet of fewer than 7 bytes, 1, 2, 3, 5, 4,
  * 8.
  */
 uint8_t shares_allocate(const uint8_t *sheet, size_t sheet_len,
@@ -147,7 +150,7 @@ uint8_t shares_allocate(const uint8_t *sheet, size_t sheet_len,
  * the fewest chores. For that a row of difficult marks only is read as all easy.
  * The moves, made one after the other from there, give the owners that are
  * returned.
- * Returns a refusal number: 5 for a sheet of fewer than 6 bytes, 1, 2, 3, 5, 4,
+ * Returns a refusal number: 5 for a sheet of fewer than 7 bytes, 1, 2, 3, 5, 4,
  * 8, 11.
  */
 uint8_t shares_allocate_recorded(const uint8_t *sheet, size_t sheet_len,
@@ -164,7 +167,7 @@ uint8_t shares_allocate_recorded(const uint8_t *sheet, size_t sheet_len,
  * SHARES_WASTEFUL, and then they are such another list. It is kept otherwise.
  * Returns a verdict, see below: SHARES_HOLDS, SHARES_UNFAIR with the first pair
  * of agents i, j where i envies j by more than one chore, or SHARES_WASTEFUL.
- * Refusals: 5 for fewer than 6 bytes, 1, 2, 3, 5, 4, 6, 7, 8.
+ * Refusals: 5 for fewer than 7 bytes, 1, 2, 3, 5, 4, 6, 7, 8.
  */
 uint32_t shares_check_list(const uint8_t *sheet, size_t sheet_len,
                            const uint8_t *owners, size_t owners_len,
@@ -176,7 +179,7 @@ uint32_t shares_check_list(const uint8_t *sheet, size_t sheet_len,
  * Returns a verdict, see below: SHARES_ACCEPTED, SHARES_OFF_PRICE with the first
  * chore that is not a best one of its owner, or SHARES_PRICE_ENVY with the first
  * pair of agents i, j where i's prices without the dearest are above j's.
- * Refusals: 5 for fewer than 6 bytes, 1, 2, 3, 5, 4, 6, 7, 10.
+ * Refusals: 5 for fewer than 7 bytes, 1, 2, 3, 5, 4, 6, 7, 10.
  */
 uint32_t shares_check_prices(const uint8_t *sheet, size_t sheet_len,
                              const uint8_t *owners, size_t owners_len,
@@ -195,7 +198,7 @@ uint8_t shares_find_sheet(const uint8_t *book, size_t book_len,
 /* Shares out every sheet of a book, each into the next free stretch of both
  * long lists. A refused sheet takes no entries.
  *
- * Lent: owners, at least 3,200 bytes; prices, at least 12,800 bytes; scratch, at
+ * Lent: owners, at least 64,000 bytes; prices, at least 256,000 bytes; scratch, at
  * least 1,024 bytes.
  * Returns 0: entry i of each list of results tells of sheet i + 1. refusals has 0
  * or the sheet's number 1 to 5. Beside 0 are the sheet's moves, its cuts and its
@@ -226,9 +229,9 @@ uint8_t shares_allocate_book(const uint8_t *book, size_t book_len,
  * is kept. It has the n, a and b of both; a row has the agent's marks of the
  * first sheet, then those of the second. *written is its number of bytes. It
  * breaks no rule, so every call that is handed a sheet takes it.
- * Returns a refusal number: the first sheet's own, 5 for fewer than 6 bytes, 1,
- * 2, 3, 5, 4; the second's own, in the same order; 12; 2 for more than 200 chores
- * together; 8.
+ * Returns a refusal number: the first sheet's own, 5 for fewer than 7 bytes, 1,
+ * 2, 3, 5, 4; the second's own, in the same order; 12; 2 for more than 4,000
+ * chores together; 8.
  *
  * If an owner list is not wasteful on the joined sheet, that is, if no other list
  * costs nobody more and somebody less, neither strand's part of it is wasteful on
@@ -245,8 +248,9 @@ uint8_t shares_join(const uint8_t *first, size_t first_len,
  * second's first. Nothing is copied.
  *
  * Returns 0: *strand is 1 if the first sheet holds the chore, and 2 if the second
- * does. *start is the place in that sheet, counted from 0, of the first mark of
- * agent number person, and *size the number of marks in this agent's row there.
+ * does. *start is the place in that sheet, counted from 0, of the first byte of
+ * the row of agent number person, and *size the row's number of bytes, (m + 7) / 8
+ * with m the chores of that sheet.
  * Returns a refusal number: as shares_join up to 2, then 9 for a person of 0 or
  * above n, or a chore of 0 or above the chores of both together.
  */
@@ -304,6 +308,31 @@ static inline uint16_t shares_verdict_chore(uint32_t verdict)
     return SHARES_AS(uint16_t, verdict >> 16);
 }
 
+/* The place in a sheet of the byte that holds entry `entry` of row `row`, both
+ * counted from 0. This and the next two go by the m in the sheet's header. They
+ * ask that the sheet has all its bytes, that row is below n and entry below m, and
+ * do not test it. */
+static inline size_t shares_mark_place(const uint8_t *sheet, size_t row, size_t entry)
+{
+    uint16_t m = SHARES_AS(uint16_t, sheet[1] << 8 | sheet[2]);
+    return SHARES_HEADER_BYTES + row * SHARES_ROW_BYTES(m) + entry / 8;
+}
+
+/* The mark there, which is agent row + 1's for chore entry + 1: 1 if it is
+ * difficult, 0 if it is easy. */
+static inline int shares_is_difficult(const uint8_t *sheet, size_t row, size_t entry)
+{
+    return sheet[shares_mark_place(sheet, row, entry)] >> (7 - entry % 8) & 1;
+}
+
+/* Makes it difficult, or easy if `difficult` is 0. */
+static inline void shares_set_difficult(uint8_t *sheet, size_t row, size_t entry, int difficult)
+{
+    uint8_t *at = sheet + shares_mark_place(sheet, row, entry);
+    int bit = 0x80 >> entry % 8;
+    *at = SHARES_AS(uint8_t, difficult ? *at | bit : *at & ~bit);
+}
+
 /* Entry `entry` of a price list, counted from 0. */
 static inline uint32_t shares_price(const uint8_t *prices, size_t entry)
 {
@@ -331,13 +360,13 @@ static inline const char *shares_refusal_text(uint8_t number)
     case SHARES_BAD_AGENTS:
         return "The number of agents is 0 or above 32.";
     case SHARES_BAD_CHORES:
-        return "The number of chores, of one sheet or of two together, is above 200.";
+        return "The number of chores, of one sheet or of two together, is above 4,000.";
     case SHARES_BAD_WEIGHTS:
         return "The easy weight is 0 or not below the difficult one, or the difficult one is above 1,000.";
-    case SHARES_BAD_MARK:
-        return "A mark is neither 'e' nor 'd'.";
+    case SHARES_BAD_PADDING:
+        return "A bit after the last chore of a row is set.";
     case SHARES_BAD_LENGTH:
-        return "The sheet does not have 6 bytes and one for each mark.";
+        return "The sheet has fewer than 7 bytes, or other than its agents and chores make.";
     case SHARES_BAD_OWNER_COUNT:
         return "The owner list does not have one entry for each chore.";
     case SHARES_BAD_OWNER:
