@@ -8,11 +8,9 @@
 #define RECORD (SHARES_MOVE_BYTES * 3)
 
 /* Without chores, without moves, and with three of them. */
-static const uint8_t bare[SHARES_SHEET_BYTES(1, 0)] = {1, 0, 0, 1, 0, 3};
-static const uint8_t calm[SHARES_SHEET_BYTES(2, 2)] = {2, 2, 0, 1, 0, 2, 'e', 'd', 'd', 'e'};
-static const uint8_t sheet[SHARES_SHEET_BYTES(2, CHORES)] = {
-    2, CHORES, 0, 1, 0, 3, 'e', 'e', 'e', 'e', 'e', 'd', 'd', 'd', 'd', 'e',
-};
+static const uint8_t bare[SHARES_SHEET_BYTES(1, 0)] = {1, 0, 0, 0, 1, 0, 3};
+static const uint8_t calm[SHARES_SHEET_BYTES(2, 2)] = {2, 0, 2, 0, 1, 0, 2, 0x40, 0x80};
+static const uint8_t sheet[SHARES_SHEET_BYTES(2, CHORES)] = {2, 0, CHORES, 0, 1, 0, 3, 0x00, 0xf0};
 static const uint8_t owners[CHORES] = {2, 2, 1, 1, 2};
 
 static uint8_t lent[CHORES], prices[PRICES], scratch[SHARES_SCRATCH];
@@ -104,7 +102,7 @@ static uint8_t allocate_book(const uint8_t *book, size_t book_len, uint8_t *own,
 
 static void test_books(void)
 {
-    const uint8_t book[] = {1, 0, 5, 0, 6, 1, 0, 0, 1, 0, 3};
+    const uint8_t book[] = {1, 0, 5, 0, 7, 1, 0, 0, 0, 1, 0, 3};
     size_t start = 0, size = 0;
     expect("find_sheet", "no book", shares_find_sheet(NULL, 0, 1, &start, &size), SHARES_BAD_BOOK);
     expect("allocate_book", "nothing at all", allocate_book(NULL, 0, NULL, 0, NULL, 0, NULL, 0), SHARES_BAD_BOOK);

@@ -12,13 +12,10 @@
 /* Bytes after a record. */
 #define REST 20
 
-/* 2 agents, 5 chores, weights 1 and 3. */
-static const uint8_t sheet[SHARES_SHEET_BYTES(2, CHORES)] = {
-    2, CHORES, 0, 1, 0, 3, 'e', 'e', 'e', 'e', 'e', 'd', 'd', 'd', 'd', 'e',
-};
+/* 2 agents, 5 chores, weights 1 and 3, rows eeeee and dddde. */
+static const uint8_t sheet[SHARES_SHEET_BYTES(2, CHORES)] = {2, 0, CHORES, 0, 1, 0, 3, 0x00, 0xf0};
 static const uint8_t owners[CHORES] = {2, 2, 1, 1, 2};
 static const uint8_t prices[PRICES] = {0, 0, 0, 3, 0, 0, 0, 3, 0, 0, 0, 3, 0, 0, 0, 3, 0, 0, 0, 1};
-
 static const uint8_t record[RECORD] = {0, 5, 1, 2, 1, 2, 0, 1, 1, 2, 2, 2, 0, 2, 1, 2, 2, 2};
 
 /* All that is ever lent, and what it held before the call. */
@@ -105,52 +102,69 @@ static uint8_t allocate_book(const uint8_t *book, size_t book_len, size_t owners
 
 #define WHOLE (sizeof sheet)
 
+/* Too many owners, one of them 0, and too few prices, one of them 0. */
+static const uint8_t bad_owners[CHORES + 1] = {2, 2, 1, 1, 2, 0};
+static const uint8_t bad_prices[PRICES - 1] = {0};
+
+/* A sheet's number comes before all others. */
 static void test_sheets(void)
 {
     for (size_t i = 0; i < FAULTS; i++) {
-        const struct fault *fault = &faults[i];
-        const uint8_t *bytes = (const uint8_t *)fault->bytes;
-        expect_kept("allocate", fault->what, allocate(bytes, fault->length, CHORES, PRICES, SHARES_SCRATCH),
-                    fault->number);
-        expect_kept("allocate_recorded", fault->what,
-                    allocate_recorded(bytes, fault->length, CHORES, PRICES, SHARES_SCRATCH, RECORD), fault->number);
-        /* The record is looked at after the sheet. */
-        expect_kept("allocate_recorded without a record", fault->what,
-                    allocate_recorded(bytes, fault->length, CHORES, PRICES, SHARES_SCRATCH, 0), fault->number);
-        expect_kept("check_list", fault->what, check_list(bytes, fault->length, owners, CHORES, CHORES), fault->number);
-        expect_kept("check_prices", fault->what, check_prices(bytes, fault->length, owners, CHORES, prices, PRICES),
-                    fault->number);
+        const char *what = faults[i].what;
+        const uint8_t *bytes = (const uint8_t *)faults[i].bytes;
+        const size_t length = faults[i].length;
+        const uint8_t number = faults[i].number;
+        expect_kept("allocate", what, allocate(bytes, length, CHORES, PRICES, SHARES_SCRATCH), number);
+        expect_kept("allocate into nothing", what, allocate(bytes, length, 0, 0, 0), number);
+        expect_kept("allocate_recorded", what,
+                    allocate_recorded(bytes, length, CHORES, PRICES, SHARES_SCRATCH, RECORD), number);
+        expect_kept("allocate_recorded without a record", what,
+                    allocate_recorded(bytes, length, CHORES, PRICES, SHARES_SCRATCH, 0), number);
+        expect_kept("allocate_recorded into nothing", what, allocate_recorded(bytes, length, 0, 0, 0, 0), number);
+        expect_kept("check_list", what, check_list(bytes, length, owners, CHORES, CHORES), number);
+        expect_kept("check_list of a bad list", what, check_list(bytes, length, bad_owners, sizeof bad_owners, 0),
+                    number);
+        expect_kept("check_prices", what, check_prices(bytes, length, owners, CHORES, prices, PRICES), number);
+        expect_kept("check_prices of bad lists", what,
+                    check_prices(bytes, length, bad_owners, sizeof bad_owners, bad_prices, sizeof bad_prices), number);
     }
+}
+
+/* What either share-out leaves. */
+static void expect_shared_out(const char *call)
+{
+    static const uint8_t zeros[SHARES_SCRATCH];
+    expect(call, "moves", lent.moves[0] == MOVES, 1);
+    expect(call, "cuts", lent.cuts[0], 1);
+    expect(call, "owners", memcmp(lent.owners, owners, CHORES) == 0, 1);
+    expect(call, "prices", memcmp(lent.prices, prices, PRICES) == 0, 1);
+    expect(call, "scratch", memcmp(lent.scratch, zeros, sizeof zeros) == 0, 1);
+    expect(call, "beyond the owners",
+           memcmp(lent.owners + CHORES, before.owners + CHORES, sizeof lent.owners - CHORES) == 0, 1);
+    expect(call, "beyond the prices",
+           memcmp(lent.prices + PRICES, before.prices + PRICES, sizeof lent.prices - PRICES) == 0, 1);
 }
 
 static void test_allocate(void)
 {
-    expect("allocate", "lists of m entries", allocate(sheet, WHOLE, CHORES, PRICES, SHARES_SCRATCH), SHARES_OK);
-    expect("allocate", "moves", (uint32_t)lent.moves[0], 3);
-    expect("allocate", "cuts", lent.cuts[0], 1);
-    expect("allocate", "owners", (uint32_t)memcmp(lent.owners, owners, CHORES), 0);
-    expect("allocate", "prices", (uint32_t)memcmp(lent.prices, prices, PRICES), 0);
-    expect_kept("allocate", "4 owners", allocate(sheet, WHOLE, CHORES - 1, PRICES, SHARES_SCRATCH), SHARES_SHORT_LIST);
-    expect_kept("allocate", "19 bytes of prices", allocate(sheet, WHOLE, CHORES, PRICES - 1, SHARES_SCRATCH),
+    const char *call = "allocate";
+    expect(call, "lists of m entries", allocate(sheet, WHOLE, CHORES, PRICES, SHARES_SCRATCH), SHARES_OK);
+    expect_shared_out(call);
+    expect(call, "longer lists", allocate(sheet, WHOLE, CHORES + 1, PRICES + 1, SHARES_SCRATCH), SHARES_OK);
+    expect_shared_out(call);
+    expect_kept(call, "4 owners", allocate(sheet, WHOLE, CHORES - 1, PRICES, SHARES_SCRATCH), SHARES_SHORT_LIST);
+    expect_kept(call, "19 bytes of prices", allocate(sheet, WHOLE, CHORES, PRICES - 1, SHARES_SCRATCH),
                 SHARES_SHORT_LIST);
-    expect_kept("allocate", "scratch 1023", allocate(sheet, WHOLE, CHORES, PRICES, SHARES_SCRATCH - 1),
-                SHARES_SHORT_LIST);
+    expect_kept(call, "scratch 1023", allocate(sheet, WHOLE, CHORES, PRICES, SHARES_SCRATCH - 1), SHARES_SHORT_LIST);
 }
 
 /* A record of this length is enough for the three moves. */
 static void expect_recorded(const char *what, size_t record_len)
 {
-    static const uint8_t zeros[SHARES_SCRATCH];
     const char *call = "allocate_recorded";
     expect(call, what, allocate_recorded(sheet, WHOLE, CHORES, PRICES, SHARES_SCRATCH, record_len), SHARES_OK);
-    expect(call, "moves", (uint32_t)lent.moves[0], MOVES);
-    expect(call, "cuts", lent.cuts[0], 1);
-    expect(call, "owners", memcmp(lent.owners, owners, CHORES) == 0, 1);
-    expect(call, "prices", memcmp(lent.prices, prices, PRICES) == 0, 1);
-    expect(call, "scratch", memcmp(lent.scratch, zeros, sizeof zeros) == 0, 1);
+    expect_shared_out(call);
     expect(call, "record", memcmp(lent.record, record, RECORD) == 0, 1);
-    expect(call, "beyond the owners", memcmp(lent.owners + CHORES, before.owners + CHORES, CHORES) == 0, 1);
-    expect(call, "beyond the prices", memcmp(lent.prices + PRICES, before.prices + PRICES, PRICES) == 0, 1);
     expect(call, "beyond the record", memcmp(lent.record + RECORD, before.record + RECORD, REST) == 0, 1);
 }
 
@@ -193,11 +207,19 @@ static void test_check_list(void)
     expect_kept("check_list", "owner 3", check_list(sheet, WHOLE, changed, CHORES, CHORES), SHARES_BAD_OWNER);
     expect_kept("check_list", "4 entries lent", check_list(sheet, WHOLE, owners, CHORES, CHORES - 1),
                 SHARES_SHORT_LIST);
+    /* The number of entries, then each of them, then the list that is lent. */
+    expect_kept("check_list", "6 owners, one of them 0",
+                check_list(sheet, WHOLE, bad_owners, sizeof bad_owners, CHORES), SHARES_BAD_OWNER_COUNT);
+    expect_kept("check_list", "4 owners, 4 entries lent", check_list(sheet, WHOLE, owners, CHORES - 1, CHORES - 1),
+                SHARES_BAD_OWNER_COUNT);
+    expect_kept("check_list", "owner 3, 4 entries lent", check_list(sheet, WHOLE, changed, CHORES, CHORES - 1),
+                SHARES_BAD_OWNER);
     memset(changed, 1, CHORES);
     expect_kept("check_list", "unfair", shares_verdict_kind(check_list(sheet, WHOLE, changed, CHORES, CHORES)),
                 SHARES_UNFAIR);
 
-    const uint8_t crossed[] = {2, 2, 0, 1, 0, 2, 'e', 'd', 'd', 'e'};
+    /* Rows ed and de. */
+    const uint8_t crossed[] = {2, 0, 2, 0, 1, 0, 2, 0x40, 0x80};
     const uint8_t worst[] = {2, 1}, best[] = {1, 2};
     uint32_t wasteful = check_list(crossed, sizeof crossed, worst, 2, CHORES);
     expect("check_list", "wasteful", shares_verdict_kind(wasteful), SHARES_WASTEFUL);
@@ -205,45 +227,48 @@ static void test_check_list(void)
     expect("check_list", "beyond it", memcmp(lent.dominating + 2, before.dominating + 2, CHORES - 2) == 0, 1);
 }
 
-static void test_check_prices(void)
+/* The number of owners, then each of them, then the prices. */
+static void test_priced_owners(void)
 {
-    uint8_t changed_owners[CHORES + 1] = {2, 2, 1, 1, 2, 1};
-    uint8_t changed[PRICES + SHARES_PRICE_BYTES] = {0};
-    expect("check_prices", "accepted", shares_verdict_kind(check_prices(sheet, WHOLE, owners, CHORES, prices, PRICES)),
-           SHARES_ACCEPTED);
-    expect_kept("check_prices", "4 owners", check_prices(sheet, WHOLE, changed_owners, CHORES - 1, prices, PRICES),
+    const char *call = "check_prices";
+    uint8_t changed[CHORES + 1] = {2, 2, 1, 1, 2, 1};
+    expect_kept(call, "accepted", shares_verdict_kind(check_prices(sheet, WHOLE, owners, CHORES, prices, PRICES)),
+                SHARES_ACCEPTED);
+    expect_kept(call, "4 owners", check_prices(sheet, WHOLE, changed, CHORES - 1, prices, PRICES),
                 SHARES_BAD_OWNER_COUNT);
-    expect_kept("check_prices", "6 owners", check_prices(sheet, WHOLE, changed_owners, CHORES + 1, prices, PRICES),
+    expect_kept(call, "6 owners", check_prices(sheet, WHOLE, changed, CHORES + 1, prices, PRICES),
                 SHARES_BAD_OWNER_COUNT);
-    changed_owners[0] = 0;
-    expect_kept("check_prices", "owner 0", check_prices(sheet, WHOLE, changed_owners, CHORES, prices, PRICES),
-                SHARES_BAD_OWNER);
-    changed_owners[0] = 3;
-    expect_kept("check_prices", "owner 3", check_prices(sheet, WHOLE, changed_owners, CHORES, prices, PRICES),
-                SHARES_BAD_OWNER);
+    expect_kept(call, "6 owners, one of them 0",
+                check_prices(sheet, WHOLE, bad_owners, sizeof bad_owners, prices, PRICES), SHARES_BAD_OWNER_COUNT);
+    expect_kept(call, "4 owners, 19 bytes of prices",
+                check_prices(sheet, WHOLE, owners, CHORES - 1, bad_prices, sizeof bad_prices), SHARES_BAD_OWNER_COUNT);
+    changed[0] = 0;
+    expect_kept(call, "owner 0", check_prices(sheet, WHOLE, changed, CHORES, prices, PRICES), SHARES_BAD_OWNER);
+    changed[0] = 3;
+    expect_kept(call, "owner 3", check_prices(sheet, WHOLE, changed, CHORES, prices, PRICES), SHARES_BAD_OWNER);
+    expect_kept(call, "owner 3, 19 bytes of prices",
+                check_prices(sheet, WHOLE, changed, CHORES, bad_prices, sizeof bad_prices), SHARES_BAD_OWNER);
+}
 
+static void test_prices(void)
+{
+    const char *call = "check_prices";
+    const uint8_t above[SHARES_PRICE_BYTES] = {0x00, 0x0f, 0x42, 0x41};
+    uint8_t changed[PRICES + SHARES_PRICE_BYTES] = {0};
     memcpy(changed, prices, PRICES);
     changed[PRICES + 3] = 3;
-    expect_kept("check_prices", "4 prices", check_prices(sheet, WHOLE, owners, CHORES, changed, PRICES - 4),
-                SHARES_BAD_PRICE);
-    expect_kept("check_prices", "6 prices", check_prices(sheet, WHOLE, owners, CHORES, changed, PRICES + 4),
-                SHARES_BAD_PRICE);
-    expect_kept("check_prices", "19 bytes", check_prices(sheet, WHOLE, owners, CHORES, changed, PRICES - 1),
-                SHARES_BAD_PRICE);
-    expect_kept("check_prices", "21 bytes", check_prices(sheet, WHOLE, owners, CHORES, changed, PRICES + 1),
-                SHARES_BAD_PRICE);
+    expect_kept(call, "4 prices", check_prices(sheet, WHOLE, owners, CHORES, changed, PRICES - 4), SHARES_BAD_PRICE);
+    expect_kept(call, "6 prices", check_prices(sheet, WHOLE, owners, CHORES, changed, PRICES + 4), SHARES_BAD_PRICE);
+    expect_kept(call, "19 bytes", check_prices(sheet, WHOLE, owners, CHORES, changed, PRICES - 1), SHARES_BAD_PRICE);
+    expect_kept(call, "21 bytes", check_prices(sheet, WHOLE, owners, CHORES, changed, PRICES + 1), SHARES_BAD_PRICE);
     changed[3] = 0;
-    expect_kept("check_prices", "price 0", check_prices(sheet, WHOLE, owners, CHORES, changed, PRICES),
-                SHARES_BAD_PRICE);
-    const uint8_t above[SHARES_PRICE_BYTES] = {0x00, 0x0f, 0x42, 0x41};
+    expect_kept(call, "price 0", check_prices(sheet, WHOLE, owners, CHORES, changed, PRICES), SHARES_BAD_PRICE);
     memcpy(changed, above, sizeof above);
-    expect_kept("check_prices", "price 1000001", check_prices(sheet, WHOLE, owners, CHORES, changed, PRICES),
-                SHARES_BAD_PRICE);
-    memset(changed, 0, 3);
-    changed[3] = 3;
+    expect_kept(call, "price 1000001", check_prices(sheet, WHOLE, owners, CHORES, changed, PRICES), SHARES_BAD_PRICE);
+    memcpy(changed, prices, PRICES);
     changed[PRICES - 1] = 3;
-    expect("check_prices", "off price",
-           shares_verdict_kind(check_prices(sheet, WHOLE, owners, CHORES, changed, PRICES)), SHARES_OFF_PRICE);
+    expect_kept(call, "off price", shares_verdict_kind(check_prices(sheet, WHOLE, owners, CHORES, changed, PRICES)),
+                SHARES_OFF_PRICE);
 }
 
 /* A byte for each place, so that any of them can be spoilt. */
@@ -320,9 +345,9 @@ static void test_find_sheet(void)
 static void test_allocate_book(void)
 {
     size_t length = make_book();
-    expect_kept("allocate_book", "3,199 owners",
+    expect_kept("allocate_book", "63,999 owners",
                 allocate_book(book, length, SHARES_BOOK_ENTRIES - 1, LONG_PRICES, SHARES_SCRATCH), SHARES_SHORT_LIST);
-    expect_kept("allocate_book", "12,799 bytes of prices",
+    expect_kept("allocate_book", "255,999 bytes of prices",
                 allocate_book(book, length, SHARES_BOOK_ENTRIES, LONG_PRICES - 1, SHARES_SCRATCH), SHARES_SHORT_LIST);
     expect_kept("allocate_book", "scratch 1023",
                 allocate_book(book, length, SHARES_BOOK_ENTRIES, LONG_PRICES, SHARES_SCRATCH - 1), SHARES_SHORT_LIST);
@@ -365,7 +390,8 @@ int main(void)
     test_allocate();
     test_allocate_recorded();
     test_check_list();
-    test_check_prices();
+    test_priced_owners();
+    test_prices();
     test_no_books();
     test_find_sheet();
     test_allocate_book();
