@@ -70,22 +70,13 @@ static void expect_refused_both_ways(const char *what, struct given one, struct 
     expect_refused(turned, other, one, number);
 }
 
-/* What two sheets must have in common. */
-struct terms {
-    uint32_t agents, easy, difficult;
-};
-
-/* A sheet of difficult marks. */
+/* A sheet of difficult marks: each row is the same text. */
 static struct given make(uint8_t *bytes, struct terms terms, size_t chores)
 {
-    const uint8_t header[SHARES_HEADER_BYTES] = {
-        (uint8_t)terms.agents, (uint8_t)chores,
-        (uint8_t)(terms.easy >> 8), (uint8_t)terms.easy,
-        (uint8_t)(terms.difficult >> 8), (uint8_t)terms.difficult,
-    };
-    struct given made = {bytes, SHARES_SHEET_BYTES(terms.agents, chores)};
-    memcpy(bytes, header, sizeof header);
-    memset(bytes + sizeof header, 'd', made.length - sizeof header);
+    static char row[CHORES];
+    const struct rows rows = {terms, row, 0};
+    memset(row, 'd', sizeof row);
+    struct given made = {bytes, pack(bytes, &rows, 0, chores)};
     return made;
 }
 
@@ -102,7 +93,7 @@ static const struct {
     {"3 agents", {3, 1, 3}, 5},
     {"easy weight 2", {2, 2, 3}, 5},
     {"difficult weight 4", {2, 1, 4}, 5},
-    {"200 chores", {2, 1, 3}, 200},
+    {"4,000 chores", {2, 1, 3}, 4000},
 };
 
 static struct given faulty(const struct fault *fault)
@@ -140,10 +131,10 @@ static const struct {
     {"both weights", {2, 1, 4}, {2, 2, 3}},
 };
 
-/* 12 is given before 2: the last counts come to more than 200. */
+/* 12 is given before 2: the last counts come to more than 4,000. */
 static void test_unlike(void)
 {
-    static const size_t counts[][2] = {{5, 3}, {5, 0}, {0, 0}, {200, 1}, {200, 200}};
+    static const size_t counts[][2] = {{5, 3}, {5, 0}, {0, 0}, {4000, 1}, {4000, 4000}};
     char what[100];
     for (size_t i = 0; i < sizeof unlike / sizeof *unlike; i++)
         for (size_t k = 0; k < sizeof counts / sizeof *counts; k++) {
@@ -153,10 +144,10 @@ static void test_unlike(void)
         }
 }
 
-/* From 256 on the sum does not fit the byte that it would stand in. */
+/* The last but one come to 4,096, whose low byte is 0. */
 static void test_too_many(void)
 {
-    static const size_t counts[][2] = {{200, 1}, {101, 100}, {128, 128}, {200, 57}, {200, 200}};
+    static const size_t counts[][2] = {{4000, 1}, {2001, 2000}, {3999, 2}, {2048, 2048}, {4000, 4000}};
     const struct terms terms = {2, 1, 3};
     char what[100];
     for (size_t k = 0; k < sizeof counts / sizeof *counts; k++) {
@@ -169,20 +160,27 @@ static void test_too_many(void)
 #define BYTES(text) {(const uint8_t *)text, sizeof text - 1}
 
 /* Strands of 2 agents and weights 1 and 3, and some of them joined. */
-static const struct given none = BYTES("\2\0\0\1\0\3");
-static const struct given three = BYTES("\2\3\0\1\0\3" "eed" "ded");
-static const struct given two = BYTES("\2\2\0\1\0\3" "de" "ee");
-static const struct given three_two = BYTES("\2\5\0\1\0\3" "eedde" "dedee");
-static const struct given two_three = BYTES("\2\5\0\1\0\3" "deeed" "eeded");
-static const struct given two_two = BYTES("\2\4\0\1\0\3" "dede" "eeee");
-static const struct given three_two_two = BYTES("\2\7\0\1\0\3" "eeddede" "dedeeee");
+static const struct given none = BYTES("\2\0\0\0\1\0\3");
+static const struct given three = BYTES("\2\0\3\0\1\0\3" "\x20\xa0");               /* eed, ded */
+static const struct given two = BYTES("\2\0\2\0\1\0\3" "\x80\x00");                 /* de, ee */
+static const struct given three_two = BYTES("\2\0\5\0\1\0\3" "\x30\xa0");           /* eedde, dedee */
+static const struct given two_three = BYTES("\2\0\5\0\1\0\3" "\x88\x28");           /* deeed, eeded */
+static const struct given two_two = BYTES("\2\0\4\0\1\0\3" "\xa0\x00");             /* dede, eeee */
+static const struct given three_two_two = BYTES("\2\0\7\0\1\0\3" "\x34\xa0");       /* eeddede, dedeeee */
+static const struct given nine = BYTES("\2\0\11\0\1\0\3" "\x01\x80\xfe\x00");       /* eeeeeeedd, dddddddee */
+static const struct given nine_three = BYTES("\2\0\14\0\1\0\3" "\x01\x90\xfe\x50"); /* and eed, ded after them */
+
+static size_t chores_of(const uint8_t *sheet)
+{
+    return (size_t)(sheet[1] << 8 | sheet[2]);
+}
 
 /* Every call that is handed a sheet takes the joined one. */
 static void expect_taken(const char *what)
 {
     static uint8_t owners[CHORES], dominating[CHORES], prices[PRICES], scratch[SHARES_SCRATCH], record[RECORD];
     const uint8_t *sheet = lent.joined;
-    size_t whole = lent.written, m = sheet[1];
+    size_t whole = lent.written, m = chores_of(sheet);
     uint64_t moves;
     uint8_t cuts;
     expect("allocate_recorded, joined", what,
@@ -223,6 +221,7 @@ static void test_join(void)
 {
     test_pair("3 + 2 chores", three, two, three_two);
     test_pair("2 + 3 chores", two, three, two_three);
+    test_pair("9 + 3 chores", nine, three, nine_three);
     test_pair("two sheets of the same bytes", two, two, two_two);
     test_pair("a joined sheet, joined again", three_two, two, three_two_two);
     test_pair("no chores in the first", none, two, two);
@@ -245,32 +244,108 @@ static void test_same_sheet(void)
     expect("show_marks, strand", what, lent.strand, 2);
 }
 
-/* The largest sheet, cut after any of its chores. */
-static void test_seams(void)
+/* The strands that a sheet is cut into after some of its chores. */
+static struct given cut_first(const struct rows *rows, size_t seam)
+{
+    struct given first = {one_sheet, pack(one_sheet, rows, 0, seam)};
+    return first;
+}
+
+static struct given cut_second(const struct rows *rows, size_t seam)
+{
+    struct given second = {other_sheet, pack(other_sheet, rows, seam, rows->width)};
+    return second;
+}
+
+/* Whether the marks shown are the agent's row in the strand that holds the chore. */
+static int shows_row(const struct rows *rows, size_t seam, size_t person, size_t chore)
+{
+    uint8_t row[SHARES_ROW_BYTES(CHORES)];
+    int before_seam = chore <= seam;
+    size_t from = before_seam ? 0 : seam, to = before_seam ? seam : rows->width;
+    size_t size = (size_t)(put_row(row, rows->marks + rows->width * (person - 1) + from, to - from) - row);
+    const uint8_t *strand = before_seam ? lent.first : lent.second;
+    return lent.strand == (before_seam ? 1 : 2) && lent.size == size && lent.start == 7 + size * (person - 1) &&
+           memcmp(strand + lent.start, row, size) == 0;
+}
+
+/* Small strands: their agents, and their chores at most. */
+#define FEW 3
+#define WIDEST 17
+
+/* The row of every agent, by each of its chores. */
+static void expect_rows_shown(const char *what, const struct rows *rows, size_t seam)
+{
+    struct given first = cut_first(rows, seam), second = cut_second(rows, seam);
+    uint32_t shown = 0;
+    for (size_t person = 1; person <= FEW; person++)
+        for (size_t chore = 1; chore <= rows->width; chore++)
+            shown += show_marks(first, second, person, chore) == SHARES_OK && shows_row(rows, seam, person, chore);
+    expect("show_marks, every agent and chore", what, shown, (uint32_t)(FEW * rows->width));
+}
+
+/* Each with each: the seam is anywhere in a byte, and so is the end. */
+static void test_small_strands(void)
 {
     static uint8_t sheet[SHEET];
-    const struct given whole = {sheet, SHEET};
+    char marks[FEW * 2 * WIDEST], what[100];
+    for (size_t one = 0; one <= WIDEST; one++)
+        for (size_t other = 0; other <= WIDEST; other++) {
+            const struct rows rows = {{FEW, 1, 3}, marks, one + other};
+            snprintf(what, sizeof what, "%zu + %zu chores, marks tossed", one, other);
+            toss_marks(marks, sizeof marks, (uint32_t)(100 * one + other));
+            struct given whole = {sheet, pack(sheet, &rows, 0, rows.width)};
+            test_pair(what, cut_first(&rows, one), cut_second(&rows, one), whole);
+            expect_rows_shown(what, &rows, one);
+        }
+}
+
+/* The rows of every agent, at both ends and on both sides of the seam. */
+static void expect_edges_shown(const char *what, const struct rows *rows, size_t seam)
+{
+    struct given first = cut_first(rows, seam), second = cut_second(rows, seam);
+    const size_t edges[] = {1, seam == 0 ? 1 : seam, seam == CHORES ? CHORES : seam + 1, CHORES};
+    uint32_t shown = 0;
+    for (size_t person = 1; person <= AGENTS; person++)
+        for (size_t k = 0; k < 4; k++)
+            shown += show_marks(first, second, person, edges[k]) == SHARES_OK &&
+                     shows_row(rows, seam, person, edges[k]);
+    expect("show_marks, the edges of every row", what, shown, 4 * AGENTS);
+    expect_kept("show_marks of agent 33", what, show_marks(first, second, AGENTS + 1, 1), SHARES_NOT_THERE);
+    expect_kept("show_marks of chore 4,001", what, show_marks(first, second, 1, CHORES + 1), SHARES_NOT_THERE);
+}
+
+/* The largest sheet, cut near its ends, near 256 chores and in its middle. */
+static void test_large_strands(void)
+{
+    static const size_t seams[] = {0,    1,    7,    8,    9,    255,  256,  257,  1999, 2000,
+                                   2001, 2002, 2003, 2004, 2005, 2006, 3991, 3992, 3999, 4000};
+    static char marks[MARKS];
+    static uint8_t sheet[SHEET];
+    const struct rows rows = draw_rows(marks, 1);
+    const struct given whole = {sheet, pack(sheet, &rows, 0, CHORES)};
     char what[100];
-    make_sheet(sheet, 1);
-    for (size_t seam = 0; seam <= CHORES; seam++) {
-        struct given first = {one_sheet, cut_strand(sheet, 0, seam, one_sheet)};
-        struct given second = {other_sheet, cut_strand(sheet, seam, CHORES, other_sheet)};
-        snprintf(what, sizeof what, "%zu + %zu chores", seam, CHORES - seam);
+    for (size_t k = 0; k < sizeof seams / sizeof *seams; k++) {
+        struct given first = cut_first(&rows, seams[k]), second = cut_second(&rows, seams[k]);
+        snprintf(what, sizeof what, "%zu + %zu chores", seams[k], CHORES - seams[k]);
         expect_joined(what, first, second, whole, SHEET);
-        expect_taken(what);
         expect_kept("join into a list too short", what, join(first, second, SHEET - 1), SHARES_SHORT_LIST);
+        expect_edges_shown(what, &rows, seams[k]);
     }
+    expect("join", "the whole and no chores", join(whole, cut_second(&rows, CHORES), SHEET), SHARES_OK);
+    expect_taken("32 x 4,000");
 }
 
 static void expect_shown(struct given first, struct given second, size_t person, size_t chore, uint8_t strand,
-                         size_t start)
+                         size_t start, size_t size)
 {
     char what[100];
-    snprintf(what, sizeof what, "agent %zu, chore %zu of %d + %d", person, chore, first.bytes[1], second.bytes[1]);
+    snprintf(what, sizeof what, "agent %zu, chore %zu of %zu + %zu", person, chore, chores_of(first.bytes),
+             chores_of(second.bytes));
     expect("show_marks", what, show_marks(first, second, person, chore), SHARES_OK);
     expect("show_marks, strand", what, lent.strand, strand);
     expect("show_marks, start", what, (uint32_t)lent.start, (uint32_t)start);
-    expect("show_marks, size", what, (uint32_t)lent.size, strand == 1 ? first.bytes[1] : second.bytes[1]);
+    expect("show_marks, size", what, (uint32_t)lent.size, (uint32_t)size);
     /* With what it may write put back, all is as it was. */
     lent.strand = before.strand;
     lent.start = before.start;
@@ -281,28 +356,29 @@ static void expect_shown(struct given first, struct given second, size_t person,
 /* On both sides of the seam, and where one side has no chores. */
 static void test_show_marks(void)
 {
-    expect_shown(three, two, 1, 1, 1, 6);
-    expect_shown(three, two, 1, 3, 1, 6);
-    expect_shown(three, two, 1, 4, 2, 6);
-    expect_shown(three, two, 1, 5, 2, 6);
-    expect_shown(three, two, 2, 1, 1, 9);
-    expect_shown(three, two, 2, 3, 1, 9);
-    expect_shown(three, two, 2, 4, 2, 8);
-    expect_shown(three, two, 2, 5, 2, 8);
-    expect_shown(none, two, 1, 1, 2, 6);
-    expect_shown(none, two, 2, 2, 2, 8);
-    expect_shown(three, none, 1, 1, 1, 6);
-    expect_shown(three, none, 2, 3, 1, 9);
+    expect_shown(nine, two, 1, 1, 1, 7, 2);
+    expect_shown(nine, two, 1, 9, 1, 7, 2);
+    expect_shown(nine, two, 1, 10, 2, 7, 1);
+    expect_shown(nine, two, 1, 11, 2, 7, 1);
+    expect_shown(nine, two, 2, 1, 1, 9, 2);
+    expect_shown(nine, two, 2, 9, 1, 9, 2);
+    expect_shown(nine, two, 2, 10, 2, 8, 1);
+    expect_shown(nine, two, 2, 11, 2, 8, 1);
+    expect_shown(none, two, 1, 1, 2, 7, 1);
+    expect_shown(none, two, 2, 2, 2, 8, 1);
+    expect_shown(nine, none, 1, 1, 1, 7, 2);
+    expect_shown(nine, none, 2, 9, 1, 9, 2);
 }
 
 static void expect_not_there(struct given first, struct given second, size_t person, size_t chore)
 {
     char what[100];
-    snprintf(what, sizeof what, "agent %zu, chore %zu of %d + %d", person, chore, first.bytes[1], second.bytes[1]);
+    snprintf(what, sizeof what, "agent %zu, chore %zu of %zu + %zu", person, chore, chores_of(first.bytes),
+             chores_of(second.bytes));
     expect_kept("show_marks", what, show_marks(first, second, person, chore), SHARES_NOT_THERE);
 }
 
-/* Of three large numbers the low bytes alone would be 1. */
+/* Of three large numbers the low bytes alone would be 1. The bits after the last chore of a row are none. */
 static void test_not_there(void)
 {
     static const size_t large[] = {257, 65537, SIZE_MAX / 2 + 2, SIZE_MAX};
@@ -312,6 +388,7 @@ static void test_not_there(void)
     expect_not_there(three, two, 1, 0);
     expect_not_there(three, two, 1, 6);
     expect_not_there(three, two, 2, 6);
+    expect_not_there(three, two, 1, 8);
     expect_not_there(three, two, 0, 0);
     expect_not_there(three, two, 3, 6);
     expect_not_there(none, two, 1, 3);
@@ -321,37 +398,6 @@ static void test_not_there(void)
     for (size_t i = 0; i < sizeof large / sizeof *large; i++) {
         expect_not_there(three, two, large[i], 1);
         expect_not_there(three, two, 1, large[i]);
-    }
-}
-
-/* Whether the marks shown are those that the agent's row of the joined sheet has there. */
-static int shows_row(const uint8_t *sheet, size_t seam, size_t person, size_t chore)
-{
-    const uint8_t *row = sheet + SHARES_SHEET_BYTES(person - 1, CHORES);
-    int before_seam = chore <= seam;
-    const uint8_t *strand = before_seam ? lent.first : lent.second;
-    return lent.strand == (before_seam ? 1 : 2) && lent.size == (before_seam ? seam : CHORES - seam) &&
-           lent.start == SHARES_SHEET_BYTES(person - 1, lent.size) &&
-           memcmp(strand + lent.start, before_seam ? row : row + seam, lent.size) == 0;
-}
-
-/* Every agent and every chore of the largest sheet. */
-static void test_rows(void)
-{
-    static const size_t seams[] = {0, 1, 77, CHORES - 1, CHORES};
-    static uint8_t sheet[SHEET];
-    make_sheet(sheet, 2);
-    for (size_t k = 0; k < sizeof seams / sizeof *seams; k++) {
-        struct given first = {one_sheet, cut_strand(sheet, 0, seams[k], one_sheet)};
-        struct given second = {other_sheet, cut_strand(sheet, seams[k], CHORES, other_sheet)};
-        uint32_t shown = 0;
-        for (size_t person = 1; person <= AGENTS; person++)
-            for (size_t chore = 1; chore <= CHORES; chore++)
-                shown += show_marks(first, second, person, chore) == SHARES_OK &&
-                         shows_row(sheet, seams[k], person, chore);
-        expect("show_marks", "the rows of the largest sheet", shown, AGENTS * CHORES);
-        expect_not_there(first, second, AGENTS + 1, 1);
-        expect_not_there(first, second, 1, CHORES + 1);
     }
 }
 
@@ -379,22 +425,28 @@ static void count_parts(const uint8_t *owners, struct parts *seen)
     }
 }
 
+/* The same for all lists of four chores. */
+static void count_lists(struct parts *seen)
+{
+    for (uint32_t list = 0; list < 16; list++) {
+        uint8_t owners[4];
+        for (size_t c = 0; c < 4; c++)
+            owners[c] = (uint8_t)(1 + (list >> c & 1));
+        count_parts(owners, seen);
+    }
+}
+
 /* All strands of 2 agents and 2 chores, and all lists: no part is wasteful, though some are unfair. */
 static void test_parts(void)
 {
     struct parts seen = {0, 0, 0};
-    uint8_t sheets[2][SHARES_SHEET_BYTES(2, 2)] = {{2, 2, 0, 1, 0, 3}, {2, 2, 0, 1, 0, 3}};
-    const struct given first = {sheets[0], sizeof sheets[0]}, second = {sheets[1], sizeof sheets[1]};
-    for (uint32_t marks = 0; marks < 256; marks++) {
-        for (size_t i = 0; i < 8; i++)
-            sheets[i / 4][SHARES_HEADER_BYTES + i % 4] = marks >> i & 1 ? 'd' : 'e';
-        expect("join", "2 + 2 chores", join(first, second, sizeof lent.joined), SHARES_OK);
-        for (uint32_t list = 0; list < 16; list++) {
-            uint8_t owners[4];
-            for (size_t c = 0; c < 4; c++)
-                owners[c] = (uint8_t)(1 + (list >> c & 1));
-            count_parts(owners, &seen);
-        }
+    char marks[8];
+    const struct rows rows = {{2, 1, 3}, marks, 4};
+    for (uint32_t drawn = 0; drawn < 256; drawn++) {
+        for (size_t k = 0; k < sizeof marks; k++)
+            marks[k] = drawn >> k & 1 ? 'd' : 'e';
+        expect("join", "2 + 2 chores", join(cut_first(&rows, 2), cut_second(&rows, 2), sizeof lent.joined), SHARES_OK);
+        count_lists(&seen);
     }
     expect("parts", "of a list for each sheet", seen.whole >= 256, 1);
     expect("parts", "some unfair", seen.unfair > 0, 1);
@@ -408,10 +460,10 @@ int main(void)
     test_too_many();
     test_join();
     test_same_sheet();
-    test_seams();
+    test_small_strands();
+    test_large_strands();
     test_show_marks();
     test_not_there();
-    test_rows();
     test_parts();
     return finished("two strands in C");
 }
