@@ -1,6 +1,6 @@
 /* The stack that each call takes is no more than the header says, and the
- * header says no more than it must. Each call runs on a stack that was painted
- * before: what has lost its paint was used. */
+ * header says no more than it must, and less than a small thread has. Each call
+ * runs on a stack that was painted before: what has lost its paint was used. */
 #define _POSIX_C_SOURCE 200809L
 #include <pthread.h>
 #include <stdalign.h>
@@ -12,61 +12,66 @@
 #define PAINT 0xa5
 /* What the painting itself may be using. */
 #define MARGIN 256
-#define SHEETS 50
-#define BOOK_SHEETS 10
+/* The stack of a small thread. */
+#define SMALL_STACK 131072
+#define SHEETS 5
+#define BOOK_SHEETS 4
 
 static alignas(4096) uint8_t stack[STACK];
 
-static uint8_t sheet[SHEET], owners[CHORES], prices[PRICES], scratch[SHARES_SCRATCH], dominating[CHORES];
-static uint8_t record[RECORD];
+static struct joinable lent;
+static uint8_t owners[CHORES], prices[PRICES], scratch[SHARES_SCRATCH], dominating[CHORES], record[RECORD];
 static uint8_t book[1 + 4 * BOOK_SHEETS + BOOK_SHEETS * SHEET];
 static uint8_t long_owners[SHARES_BOOK_ENTRIES], long_prices[SHARES_PRICE_BYTES * SHARES_BOOK_ENTRIES];
 static uint8_t refusals[SHARES_BOOK_SHEETS], cuts[SHARES_BOOK_SHEETS];
 static uint64_t moves[SHARES_BOOK_SHEETS], tally[2];
 static uint32_t firsts[SHARES_BOOK_SHEETS];
-static uint8_t first[STRAND], second[STRAND], joined[SHEET], strand;
+static uint8_t joined[SHEET], strand;
 static size_t start, size, written;
+
+/* What came back: the bits of all refusal numbers, and a bit for each kind of verdict. */
+static uint32_t refused, kinds;
 
 static void allocate(void)
 {
-    shares_allocate(sheet, SHEET, owners, CHORES, prices, PRICES, scratch, sizeof scratch, moves, cuts);
+    refused |= shares_allocate(lent.sheet, SHEET, owners, CHORES, prices, PRICES, scratch, sizeof scratch, moves, cuts);
 }
 
 static void allocate_recorded(void)
 {
-    shares_allocate_recorded(sheet, SHEET, owners, CHORES, prices, PRICES, scratch, sizeof scratch, record, RECORD,
-                             moves, cuts);
+    refused |= shares_allocate_recorded(lent.sheet, SHEET, owners, CHORES, prices, PRICES, scratch, sizeof scratch,
+                                        record, RECORD, moves, cuts);
 }
 
 static void check_list(void)
 {
-    shares_check_list(sheet, SHEET, owners, CHORES, dominating, CHORES);
+    kinds |= 1u << shares_verdict_kind(shares_check_list(lent.sheet, SHEET, owners, CHORES, dominating, CHORES));
 }
 
 static void check_prices(void)
 {
-    shares_check_prices(sheet, SHEET, owners, CHORES, prices, PRICES);
+    kinds |= 1u << shares_verdict_kind(shares_check_prices(lent.sheet, SHEET, owners, CHORES, prices, PRICES));
 }
 
 static void find_sheet(void)
 {
-    shares_find_sheet(book, sizeof book, BOOK_SHEETS, &start, &size);
+    refused |= shares_find_sheet(book, sizeof book, BOOK_SHEETS, &start, &size);
 }
 
 static void allocate_book(void)
 {
-    shares_allocate_book(book, sizeof book, long_owners, sizeof long_owners, long_prices, sizeof long_prices, scratch,
-                         sizeof scratch, refusals, moves, cuts, firsts, tally);
+    refused |= shares_allocate_book(book, sizeof book, long_owners, sizeof long_owners, long_prices, sizeof long_prices,
+                                    scratch, sizeof scratch, refusals, moves, cuts, firsts, tally);
 }
 
 static void join(void)
 {
-    shares_join(first, sizeof first, second, sizeof second, joined, sizeof joined, &written);
+    refused |= shares_join(lent.first, FIRST, lent.second, SECOND, joined, sizeof joined, &written);
 }
 
 static void show_marks(void)
 {
-    shares_show_marks(first, sizeof first, second, sizeof second, AGENTS, CHORES, &strand, &start, &size);
+    refused |= shares_show_marks(lent.first, FIRST, lent.second, SECOND, AGENTS, CHORES, &strand, &start, &size);
 }
 
 struct call {
@@ -87,8 +92,9 @@ static struct call calls[] = {
     {"shares_show_marks", show_marks, SHARES_STACK_SHOW_MARKS, 0},
 };
 #define CALLS (sizeof calls / sizeof *calls)
-/* The first of them write the owners. */
-#define SHARE_OUTS 2
+/* The checks among them. */
+#define CHECKS 2
+#define CHECKS_END 4
 
 static void *run_painted(void *argument)
 {
@@ -110,9 +116,17 @@ static void measure(struct call *call)
     pthread_t thread;
     pthread_attr_init(&attributes);
     pthread_attr_setstack(&attributes, stack, sizeof stack);
-    if (pthread_create(&thread, &attributes, run_painted, call) == 0)
+    int failed = pthread_create(&thread, &attributes, run_painted, call);
+    expect(call->name, "started", (uint32_t)failed, 0);
+    if (failed == 0)
         pthread_join(thread, NULL);
     pthread_attr_destroy(&attributes);
+}
+
+static void measure_calls(size_t from, size_t to)
+{
+    for (size_t i = from; i < to; i++)
+        measure(&calls[i]);
 }
 
 static void make_book(void)
@@ -120,29 +134,32 @@ static void make_book(void)
     size_t at = 1 + 4 * BOOK_SHEETS;
     book[0] = BOOK_SHEETS;
     for (size_t i = 0; i < BOOK_SHEETS; i++, at += SHEET) {
-        uint8_t *entry = book + 1 + 4 * i;
-        entry[0] = (uint8_t)(at >> 8);
-        entry[1] = (uint8_t)at;
-        entry[2] = (uint8_t)(SHEET >> 8);
-        entry[3] = (uint8_t)SHEET;
-        make_sheet(book + at, (uint32_t)i);
+        put_two(put_two(book + 1 + 4 * i, at), SHEET);
+        make_joinable(&lent, (uint32_t)i);
+        memcpy(book + at, lent.sheet, SHEET);
     }
+}
+
+/* The owners of the first chore and of one that is another's, the other way round. */
+static void swap_owners(void)
+{
+    uint8_t owner = owners[0];
+    size_t c = 1;
+    while (c + 1 < CHORES && owners[c] == owner)
+        c++;
+    owners[0] = owners[c];
+    owners[c] = owner;
 }
 
 /* All calls on a sheet; both checks on its own list, on one that wastes and on one that is unfair. */
 static void measure_all(uint32_t seed)
 {
-    make_sheet(sheet, seed);
-    cut_strand(sheet, 0, HALF, first);
-    cut_strand(sheet, HALF, CHORES, second);
-    for (size_t i = 0; i < CALLS; i++)
-        measure(&calls[i]);
-    owners[seed % CHORES] ^= 1;
-    for (size_t i = SHARE_OUTS; i < CALLS; i++)
-        measure(&calls[i]);
+    make_joinable(&lent, seed);
+    measure_calls(0, CALLS);
+    swap_owners();
+    measure_calls(CHECKS, CHECKS_END);
     memset(owners, 1, CHORES);
-    for (size_t i = SHARE_OUTS; i < CALLS; i++)
-        measure(&calls[i]);
+    measure_calls(CHECKS, CHECKS_END);
 }
 
 int main(void)
@@ -155,6 +172,11 @@ int main(void)
         printf("%-24s%8zu of %zu\n", call->name, call->used, call->stated);
         expect(call->name, "within what the header says", call->used <= call->stated, 1);
         expect(call->name, "near what the header says", call->used + 1024 > call->stated, 1);
+        expect(call->name, "within a small stack", call->stated < SMALL_STACK, 1);
     }
+    expect("all calls", "none refused", refused, SHARES_OK);
+    expect("both checks", "each way out", kinds,
+           1u << SHARES_HOLDS | 1u << SHARES_UNFAIR | 1u << SHARES_WASTEFUL | 1u << SHARES_ACCEPTED |
+               1u << SHARES_OFF_PRICE);
     return finished("the stack");
 }
