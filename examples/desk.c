@@ -1,7 +1,6 @@
 /* A festival's desk: shares out one sheet and prints who does what. */
 #include <inttypes.h>
 #include <stdio.h>
-#include <string.h>
 
 #include <shares.h>
 
@@ -18,13 +17,14 @@ static const char *const reels[CHORES] = {
 
 int main(void)
 {
-    uint8_t sheet[SHARES_SHEET_BYTES(AGENTS, CHORES)] = {AGENTS, CHORES, 0, EASY, 0, DIFFICULT};
+    uint8_t sheet[SHARES_SHEET_BYTES(AGENTS, CHORES)] = {AGENTS, 0, CHORES, 0, EASY, 0, DIFFICULT};
     uint8_t owners[CHORES], prices[SHARES_PRICE_BYTES * CHORES], scratch[SHARES_SCRATCH];
     uint64_t moves;
     uint8_t cuts;
 
     for (size_t i = 0; i < AGENTS; i++)
-        memcpy(sheet + SHARES_HEADER_BYTES + CHORES * i, rows[i], CHORES);
+        for (size_t c = 0; c < CHORES; c++)
+            shares_set_difficult(sheet, i, c, rows[i][c] == 'd');
 
     uint8_t refusal = shares_allocate(sheet, sizeof sheet, owners, sizeof owners, prices, sizeof prices, scratch,
                                       sizeof scratch, &moves, &cuts);
@@ -36,8 +36,8 @@ int main(void)
         printf("%s\n", names[i]);
         for (size_t c = 0; c < CHORES; c++)
             if (owners[c] == i + 1)
-                printf("  %s (%s, price %" PRIu32 ")\n", reels[c], rows[i][c] == 'e' ? "easy" : "difficult",
-                       shares_price(prices, c));
+                printf("  %s (%s, price %" PRIu32 ")\n", reels[c],
+                       shares_is_difficult(sheet, i, c) ? "difficult" : "easy", shares_price(prices, c));
     }
     printf("moves %" PRIu64 ", price cuts %d\n", moves, cuts);
 
