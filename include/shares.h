@@ -83,7 +83,7 @@ extern "C" {
  * less than a millisecond. */
 #define SHARES_MOST_MOVES(n, m) (SHARES_AS(uint64_t, n) * (SHARES_AS(uint64_t, n) - 1) * SHARES_AS(uint64_t, m))
 
-/* The most stack that each call takes, in bytes, on x86-64. */
+/* The most stack that each call takes, in bytes, on x86-64: each less than 128 KB. */
 #define SHARES_STACK_ALLOCATE 40960
 #define SHARES_STACK_ALLOCATE_RECORDED 65536
 #define SHARES_STACK_CHECK_LIST 512
