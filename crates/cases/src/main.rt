@@ -4,6 +4,7 @@ ghost use Prim.Native.Nat.{_+_, _*_, _≤_, _<_};
 ghost use mathlib.Core.Path.{_≡_};
 ghost use lib.ListN.{length};
 ghost use Rattle.model.specs.Limits.{maxAgents, maxChores, scratchSize};
+ghost use Rattle.finite.specs.Packed.{bytesFor};
 ghost use Rattle.model.specs.Sheet.{headerSize};
 use libc::STDOUT_FILENO;
 use model::HEADER_SIZE;
@@ -12,12 +13,14 @@ use model::PriceVerdict;
 use model::ShareOut;
 
 // The longest sheet tried has two rows, of one chore past the limit.
-const LONGEST: usize = HEADER_SIZE + 2 * (model::MAX_CHORES + 1);
+const LONGEST: usize = HEADER_SIZE + 2 * ((model::MAX_CHORES + 8) / 8);
 
-// Sheet C's chores, and its two rows.
+// Sheet C's chores, its two rows, eeeee and dddde, and its bytes.
 const CHORES: usize = 5;
 
-const ROWS: [u8; 10] = *b"eeeeedddde";
+const ROWS: [u8; 2] = [0b0000_0000, 0b1111_0000];
+
+const SIZE: usize = HEADER_SIZE + 2;
 
 fn print(text: &[u8]) {
     io::write_all(STDOUT_FILENO, text);
@@ -80,35 +83,36 @@ fn print_price_verdict(answer: PriceVerdict) {
 }
 
 // The weights are 1 and b, high byte first.
-fn write_header(sheet: &mut [u8], n: u8, m: u8, b: u16)
+fn write_header(sheet: &mut [u8], n: u8, m: u16, b: u16)
     requires { ⌜ headerSize ≤ length (now sheet) ⌝ }
 {
     sheet[0] = n;
-    sheet[1] = m;
-    sheet[2] = 0;
-    sheet[3] = 1;
-    sheet[4] = (b / 256) as u8;
-    sheet[5] = (b % 256) as u8;
+    sheet[1] = (m / 256) as u8;
+    sheet[2] = (m % 256) as u8;
+    sheet[3] = 0;
+    sheet[4] = 1;
+    sheet[5] = (b / 256) as u8;
+    sheet[6] = (b % 256) as u8;
 }
 
-// The marks fill the rows, over and over.
-fn write_rows(sheet: &mut [u8], marks: &[u8])
+// The bytes of the rows, over and over.
+fn write_rows(sheet: &mut [u8], rows: &[u8])
     requires { ⌜ headerSize ≤ length (now sheet) ⌝ }
-    requires { ⌜ 0 < length (now marks) ⌝ }
+    requires { ⌜ 0 < length (now rows) ⌝ }
 {
     let mut k = HEADER_SIZE;
     while k < sheet.len() {
-        sheet[k] = marks[(k - HEADER_SIZE) % marks.len()];
+        sheet[k] = rows[(k - HEADER_SIZE) % rows.len()];
         k += 1;
     }
 }
 
-fn write_sheet(sheet: &mut [u8], n: u8, m: u8, b: u16, marks: &[u8])
+fn write_sheet(sheet: &mut [u8], n: u8, m: u16, b: u16, rows: &[u8])
     requires { ⌜ headerSize ≤ length (now sheet) ⌝ }
-    requires { ⌜ 0 < length (now marks) ⌝ }
+    requires { ⌜ 0 < length (now rows) ⌝ }
 {
     write_header(sheet, n, m, b);
-    write_rows(sheet, marks);
+    write_rows(sheet, rows);
 }
 
 // The lists have room for a chore past the limit, so that they are not what is turned down. The sheet has m chores.
@@ -123,16 +127,16 @@ fn try_share_out(sheet: &[u8], m: usize, scratch: usize)
     print_share_out(answer, &owners[0..m], &prices[0..m]);
 }
 
-fn try_sheet(n: u8, m: u8, b: u16, marks: &[u8], scratch: usize)
+fn try_sheet(n: u8, m: u16, b: u16, rows: &[u8], scratch: usize)
     requires { ⌜ m ≤ maxChores + 1 ⌝ }
-    requires { ⌜ headerSize + n * m ≤ headerSize + 2 * (maxChores + 1) ⌝ }
-    requires { ⌜ 0 < length (now marks) ⌝ }
+    requires { ⌜ n * bytesFor m ≤ 2 * bytesFor (maxChores + 1) ⌝ }
+    requires { ⌜ 0 < length (now rows) ⌝ }
     requires { ⌜ scratch ≤ scratchSize ⌝ }
 {
     let mut space = [0u8; LONGEST];
-    let size = HEADER_SIZE + (n as usize) * (m as usize);
+    let size = sheet::row_start(m as usize, n as usize);
     let sheet = &mut space[0..size];
-    write_sheet(sheet, n, m, b, marks);
+    write_sheet(sheet, n, m, b, rows);
     try_share_out(sheet, m as usize, scratch);
 }
 
@@ -140,14 +144,14 @@ fn try_agents(n: u8)
     requires { ⌜ n ≤ maxAgents + 1 ⌝ }
 {
     print_case(b"n ", n as u64);
-    try_sheet(n, 3, 2, b"eed", model::SCRATCH_SIZE);
+    try_sheet(n, 3, 2, &[0b0010_0000], model::SCRATCH_SIZE);
 }
 
-fn try_chores(m: u8)
+fn try_chores(m: u16)
     requires { ⌜ m ≤ maxChores + 1 ⌝ }
 {
     print_case(b"m ", m as u64);
-    try_sheet(2, m, 2, b"e", model::SCRATCH_SIZE);
+    try_sheet(2, m, 2, &[0], model::SCRATCH_SIZE);
 }
 
 fn try_weight(b: u16) {
@@ -165,7 +169,7 @@ fn try_scratch(scratch: usize)
 // Each limit, at it and one past it.
 fn try_limits() {
     let agents = model::MAX_AGENTS as u8;
-    let chores = model::MAX_CHORES as u8;
+    let chores = model::MAX_CHORES as u16;
     let weight = model::MAX_WEIGHT as u16;
     try_agents(agents);
     try_agents(agents + 1);
@@ -178,24 +182,24 @@ fn try_limits() {
 }
 
 // The faults below are made in sheet C.
-fn sheet_c() -> [u8; 16]
-    ensures { λ r. ⌜ length r ≡ 16 ⌝ }
+fn sheet_c() -> [u8; SIZE]
+    ensures { λ r. ⌜ length r ≡ 9 ⌝ }
 {
-    let mut sheet = [0u8; 16];
+    let mut sheet = [0u8; SIZE];
     write_sheet(&mut sheet, 2, 5, 3, &ROWS);
     sheet
 }
 
-fn try_mark(mark: u8) {
+// The bit after the last chore of the last row.
+fn try_bit() {
     let mut sheet = sheet_c();
-    sheet[15] = mark;
-    print(b"mark ");
-    print(&[mark]);
+    sheet[8] = 0b1111_0100;
+    print_case(b"bit ", CHORES as u64 + 1);
     try_share_out(&sheet, CHORES, model::SCRATCH_SIZE);
 }
 
 fn try_length(size: usize)
-    requires { ⌜ size ≤ 16 ⌝ }
+    requires { ⌜ size ≤ 9 ⌝ }
 {
     let sheet = sheet_c();
     print_case(b"length ", size as u64);
@@ -246,22 +250,22 @@ fn look_up(book: &[u8], which: usize) {
     print_found(found.refusal, found.sheet);
 }
 
-// A book of C, from byte 9 on and of 16 bytes, and of a sheet of no bytes, which is no refused lookup.
+// A book of C, from byte 9 on and of 9 bytes, and of a sheet of no bytes, which is no refused lookup.
 fn try_lookup(which: usize) {
-    let mut book = [0u8; 25];
+    let mut book = [0u8; 18];
     book[0] = 2;
     book[2] = 9;
-    book[4] = 16;
-    book[6] = 25;
-    write_sheet(&mut book[9..25], 2, 5, 3, &ROWS);
+    book[4] = 9;
+    book[6] = 18;
+    write_sheet(&mut book[9..18], 2, 5, 3, &ROWS);
     print_case(b"sheet ", which as u64);
     look_up(&book, which);
 }
 
 fn main() {
     try_limits();
-    try_mark(b'x');
-    try_length(15);
+    try_bit();
+    try_length(8);
     try_owners(4);
     try_owner(3);
     try_price(0);
