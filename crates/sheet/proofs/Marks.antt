@@ -1,12 +1,11 @@
 -- Where the marks of a sheet lie, and what a row of them is.
 -- Assumes nothing.
 use Prim.Native.Nat.{ℕ, _+_, _*_, _-_, _/_, _%_, _^_, _≤_, _<_}
-use mathlib.Core.Bool.{true, false, cond, not}
+use mathlib.Core.Bool.{true, false, not}
 use mathlib.Core.List.{List}
 use mathlib.Core.Path.{_≡_, refl, sym, ap, _∙_}
 use native.Mathlib.Nat.{mul-le-mul-right}
 use native.Mathlib.Omega.{arith}
-use lib.Count.{ones}
 use lib.Dec.{eqb}
 use lib.ListN.{length, getD, drop, length-drop}
 use lib.Seq.{length-take-le, getD-take, getD-drop}
@@ -16,7 +15,7 @@ use Rattle.finite.specs.Packed.{bitAt, bytesFor}
 use Rattle.finite.specs.Search.{anyBelow, allBelow}
 use Rattle.finite.proofs.Tests.{not-not}
 use Rattle.finite.proofs.Search.{any-zero, any-intro, all-cong}
-use Rattle.finite.proofs.Packed.{bit-digit, count-byte, count-rest, all-counted, set-after}
+use Rattle.finite.proofs.Packed.{bit-in-byte, count-rest, all-counted, set-after}
 use Rattle.model.specs.Sheet.{headerSize, agentsOf, choresOf, rowSize, rowStart, rowOf, sheetLength, isDifficult, marksEasy, difficultMarks, allDifficult}
 use Rattle.model.specs.Refusals.{setAfter, marksFault}
 use Rattle.sheet.specs.Readers.{Read, Whole, RowInSheet, InSheet}
@@ -48,36 +47,35 @@ whole-row {s} {i = i} w l = rw (w .chores) (row-inside s i (w .long) (rw (← w 
 pub in-sheet : {s : List ℕ} {m i : ℕ} → RowInSheet s m i → headerSize + i * bytesFor m + bytesFor m ≤ length s
 in-sheet {s} {i = i} h = rw (h .chores) (row-inside s i (h .valid .long) (h .agent))
 
--- and for a mark of it
-pub mark-inside : {s : List ℕ} {m i c : ℕ} → InSheet s m i c → headerSize + i * bytesFor m + c / 8 < length s
-mark-inside {s} {i = i} h = rw (h .chores) (omega (arith, row-inside s i (h .valid .long) (h .agent), h .chore))
-
 -- its bytes
 pub row-byte : (s : List ℕ) (i k : ℕ) → k < rowSize s → getD (rowOf s i) k 0 ≡ getD s (rowStart s i + k) 0
 unfolding rowOf
 row-byte s i k l = getD-take (rowSize s) (drop (rowStart s i) s) k 0 l ∙ getD-drop (rowStart s i) s k 0
 
--- its marks
-module _ (s : List ℕ) (i c : ℕ) (l : c < choresOf s) where
-  pub byte-below : c / 8 < rowSize s
-  byte-below = omega arith
+pub byte-is : {s : List ℕ} {m i : ℕ} → RowInSheet s m i → (start k : ℕ) → start ≡ headerSize + i * bytesFor m → k < bytesFor m → getD (rowOf s i) k 0 ≡ getD s (start + k) 0
+byte-is {s} {m} {i} h start k e l =
+    row-byte s i k (rw (← h .chores) l) ∙ ap (λ r. getD s (r + k) 0) (rw (← h .chores) (sym e))
 
-  pub mark-bit : isDifficult s i c ≡ bit (getD s (rowStart s i + c / 8) 0) (7 - c % 8)
-  unfolding isDifficult bitAt
-  mark-bit = ap (λ x. bit x (7 - c % 8)) (row-byte s i (c / 8) byte-below)
+-- its marks, byte by byte
+pub mark-in-row : (s : List ℕ) (i k j : ℕ) → j < 8 → isDifficult s i (8 * k + j) ≡ bit (getD (rowOf s i) k 0) (7 - j)
+unfolding isDifficult
+mark-in-row s i k j l = bit-in-byte (rowOf s i) k j l
 
--- a mark as a digit, by its byte and the shift that takes its bit down
-pub mark-read : {s : List ℕ} {m i c : ℕ} (start : ℕ) → InSheet s m i c → start ≡ headerSize + i * bytesFor m → getD s (start + c / 8) 0 / 2 ^ (7 - c % 8) % 2 ≡ cond (isDifficult s i c) 1 0
-mark-read {s} {m} {i} {c} start h e =
-    rw (mark-bit s i c (h .chore), ← h .chores, ← e) (sym (bit-digit (getD s (start + c / 8) 0) (7 - c % 8)))
+-- whoever reads a mark reads in a row of its sheet, a byte that is there
+module _ {s : List ℕ} {m i c : ℕ} (h : InSheet s m i c) where
+  pub mark-row : RowInSheet s m i
+  mark-row = record { valid = h .valid; chores = h .chores; agent = h .agent }
 
--- the difficult marks of a row are the bits set in all of its bytes, counted byte by byte
+  pub byte-below : c / 8 < bytesFor m
+  byte-below = omega (arith, h .chores, h .chore)
+
+  pub mark-read : isDifficult s i c ≡ bit (getD (rowOf s i) (c / 8) 0) (7 - c % 8)
+  mark-read =
+      let here : 8 * (c / 8) + c % 8 ≡ c = omega arith in
+      ap (isDifficult s i) (sym here) ∙ mark-in-row s i (c / 8) (c % 8) (omega arith)
+
+-- the difficult marks of a row are the bits set in all of its bytes
 module _ {s : List ℕ} {m i : ℕ} (h : RowInSheet s m i) where
-  pub count-on : (start k count : ℕ) → start ≡ headerSize + i * bytesFor m → k < bytesFor m → getD s (start + k) 0 < 256 → count ≡ countTo (8 * k) (bitAt (rowOf s i)) → count + ones (getD s (start + k) 0) ≡ countTo (8 * (k + 1)) (bitAt (rowOf s i))
-  count-on start k count e l below so-far =
-      let same : getD (rowOf s i) k 0 ≡ getD s (start + k) 0 = row-byte s i k (rw (← h .chores) l) ∙ ap (λ r. getD s (r + k) 0) (rw (← h .chores) (sym e)) in
-      rw (so-far, ← same) (sym (count-byte (rowOf s i) k (rw same below)))
-
   pub count-all : (count k : ℕ) → k ≡ bytesFor m → count ≡ countTo (8 * k) (bitAt (rowOf s i)) → count ≡ difficultMarks s i
   unfolding difficultMarks isDifficult
   count-all count k e so-far =

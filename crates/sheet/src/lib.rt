@@ -1,11 +1,12 @@
 // Reading a sheet: its header, its marks, and the number that it is turned down with. Agents and chores are counted from 0.
 
 ghost use mathlib.Core.Path.{_≡_};
-ghost use Prim.Native.Nat.{_+_, _*_, _≤_, _<_};
+ghost use Prim.Native.Nat.{_+_, _*_, _-_, _≤_, _<_};
 ghost use mathlib.Core.Bool.{cond, not};
 ghost use lib.Dec.{eqb};
 ghost use lib.ListN.{length, getD};
 ghost use Rattle.finite.specs.Lists.{wordAt};
+ghost use Rattle.finite.specs.Bits.{bit};
 ghost use Rattle.finite.specs.Packed.{bytesFor};
 ghost use Rattle.model.specs.Sheet.{headerSize, agentsOf, choresOf, easyWeight, difficultWeight, rowOf, isDifficult, marksEasy, sheetLength, difficultMarks, allDifficult};
 ghost use Rattle.model.specs.Refusals.{_orElse_, _when_, outOfRange, weightsFault, setAfter, marksFault, headerRefusal, sheetRefusal, lentRefusal};
@@ -83,14 +84,29 @@ pub fn row(sheet: &[u8], m: usize, i: usize) -> &[u8]
     &sheet[start..end]
 }
 
-// 1 for a difficult mark, 0 for an easy one, the high bit of a byte first. Whoever asks for a mark asks here, so that where it lies is known to
-// nobody else. The caller passes the number of chores, since a search asks for many marks of one sheet.
+// Byte k of agent i's row.
+pub fn row_byte(sheet: &[u8], m: usize, i: usize, k: usize) -> u8
+    requires { ⌜ RowInSheet (now sheet) m i ⌝ }
+    requires { ⌜ k < bytesFor m ⌝ }
+    ensures { λ r. ⌜ Read (getD (rowOf (now (sheet .entry)) i) k 0) 256 r ⌝ }
+{
+    sheet[row_start(m, i) + k]
+}
+
+// The mark at place j of such a byte, the high bit first: 1 for a difficult mark, 0 for an easy one. Every mark is taken out of its byte here.
+pub fn mark_in(byte: u8, j: usize) -> u8
+    requires { ⌜ j < 8 ⌝ }
+    ensures { λ r. ⌜ r ≡ cond (bit byte (7 - j)) 1 0 ⌝ }
+{
+    (byte >> (7 - j)) % 2
+}
+
+// Agent i's mark for chore c. The caller passes the number of chores, since a search asks for many marks of one sheet.
 pub fn mark_at(sheet: &[u8], m: usize, i: usize, c: usize) -> u8
     requires { ⌜ InSheet (now sheet) m i c ⌝ }
     ensures { λ r. ⌜ r ≡ cond (isDifficult (now (sheet .entry)) i c) 1 0 ⌝ }
 {
-    let byte = sheet[row_start(m, i) + c / 8];
-    (byte >> (7 - c % 8)) % 2
+    mark_in(row_byte(sheet, m, i, c / 8), c % 8)
 }
 
 pub fn marks_easy(sheet: &[u8], m: usize, i: usize, c: usize) -> bool
@@ -106,12 +122,11 @@ pub fn difficult_marks(sheet: &[u8], m: usize, i: usize) -> usize
     requires { ⌜ RowInSheet (now sheet) m i ⌝ }
     ensures { λ r. ⌜ r ≡ difficultMarks (now (sheet .entry)) i ⌝ }
 {
-    let start = row_start(m, i);
     let size = row_size(m);
     let mut count = 0;
     let mut k = 0;
     while k < size {
-        count += u8::count_ones(sheet[start + k]) as usize;
+        count += u8::count_ones(row_byte(sheet, m, i, k)) as usize;
         k += 1;
     }
     count
