@@ -1,7 +1,7 @@
 // Evenness: the first agent that is worse off than another although its costliest chore is taken off.
 
 ghost use mathlib.Core.Path.{_≡_};
-ghost use Prim.Native.Nat.{_<_};
+ghost use Prim.Native.Nat.{_+_, _<_};
 ghost use lib.ListN.{replicate};
 ghost use Rattle.finite.specs.Sums.{maxWhere};
 ghost use Rattle.finite.specs.Search.{firstBelow};
@@ -9,11 +9,38 @@ ghost use Rattle.finite.specs.Lists.{Table};
 ghost use Rattle.model.specs.Limits.{maxAgents};
 ghost use Rattle.model.specs.Instance.{cost, ownerOf};
 ghost use Rattle.model.specs.Sheet.{agentsOf, asMarked};
-ghost use Rattle.model.specs.Fairness.{owns, costTo};
+ghost use Rattle.model.specs.Fairness.{owns, total, costTo};
 ghost use Rattle.model.specs.Verdicts.{envies, firstOfPair};
 ghost use Rattle.given.specs.Given.{Given};
+ghost use Rattle.evenness.specs.Adding.{Adding};
 
-// For each agent what its chores cost, or would cost, agent i: each chore's cost is added to the sum of its owner.
+// Adds what `count` chores from `first` on cost agent i, each to the sum of its owner. Agent i's marks for them are in one byte, which is read
+// once.
+fn add_byte(
+    sheet: &[u8],
+    owners: &[u8],
+    m: usize,
+    a: u32,
+    b: u32,
+    i: usize,
+    first: usize,
+    count: usize,
+    sums: &mut [u32; model::MAX_AGENTS],
+)
+    requires { ⌜ Adding (now sheet) (now owners) m a b i first count ⌝ }
+    requires { ⌜ Table maxAgents (total first (ownerOf (now owners)) (cost (asMarked (now sheet)) i)) (now sums) ⌝ }
+    ensures { λ _. ⌜ Table maxAgents (total (first + count) (ownerOf (now (owners .entry))) (cost (asMarked (now (sheet .entry))) i)) (now (sums .exit)) ⌝ }
+{
+    let byte = sheet::row_byte(sheet, m, i, first / 8);
+    let mut j = 0;
+    while j < count {
+        let owner = given::owner(owners, first + j);
+        sums[owner] += given::mark_cost(a, b, sheet::mark_in(byte, j));
+        j += 1;
+    }
+}
+
+// For each agent what its chores cost, or would cost, agent i. Whole bytes first: with a constant count the compiler unrolls the loop over one.
 fn add_costs(sheet: &[u8], owners: &[u8], m: usize, i: usize, sums: &mut [u32; model::MAX_AGENTS])
     requires { ⌜ Given (now sheet) (now owners) (agentsOf (now sheet)) m ⌝ }
     requires { ⌜ i < agentsOf (now sheet) ⌝ }
@@ -23,10 +50,12 @@ fn add_costs(sheet: &[u8], owners: &[u8], m: usize, i: usize, sums: &mut [u32; m
     let a = sheet::easy_weight(sheet);
     let b = sheet::difficult_weight(sheet);
     let mut c = 0;
-    while c < m {
-        let j = given::owner(owners, c);
-        sums[j] += given::cost(sheet, m, a, b, i, c);
-        c += 1;
+    while c + 8 <= m {
+        add_byte(sheet, owners, m, a, b, i, c, 8, sums);
+        c += 8;
+    }
+    if c < m {
+        add_byte(sheet, owners, m, a, b, i, c, m - c, sums);
     }
 }
 

@@ -54,7 +54,7 @@ pub fn owner(owners: &[u8], c: usize) -> usize
 
 // What either mark costs. Document 02, request 3: "by arithmetic without a branch: a plus the product of (b − a) and" the mark, which is 0 for
 // an easy one and 1 for a difficult one.
-fn mark_cost(a: u32, b: u32, mark: u8) -> u32
+pub fn mark_cost(a: u32, b: u32, mark: u8) -> u32
     requires { ⌜ Marked a b mark ⌝ }
     ensures { λ r. ⌜ r ≡ cond (eqb mark 1) b a ⌝ }
 {
