@@ -48,15 +48,17 @@ fn limits() -> Vec<String> {
 fn refusals() -> Vec<String> {
     let sheet = sheet_c();
     let (last, most) = (sheet.len() - 1, OWNERS.len() - 1);
+    // The bit after the last chore's.
+    let after = most + 2;
     let mut marked = sheet.clone();
-    marked[last] = b'x';
+    marked[last] |= 1 << (8 - after);
     let mut owners = OWNERS;
     owners[most] = 3;
     let mut prices = PRICES;
     prices[most] = 0;
     let book = compose::book(&[sheet.as_slice(), &[]]);
     let mut lines = vec![
-        format!("mark x {}", shared(&marked, MIN_SCRATCH)),
+        format!("bit {after} {}", shared(&marked, MIN_SCRATCH)),
         format!("length {last} {}", shared(&sheet[..last], MIN_SCRATCH)),
         format!("owners {most} {}", listed(&sheet, &OWNERS[..most])),
         format!("owner 3 {}", listed(&sheet, &owners)),

@@ -21,7 +21,7 @@ impl Costs {
     /// Costs as the share-out reads them: an all-difficult row is all easy.
     pub fn as_read(sheet: &Sheet) -> Self {
         let only_difficult: Vec<bool> = (0..sheet.agents)
-            .map(|agent| (0..sheet.chores).all(|chore| sheet.is_difficult(agent, chore)))
+            .map(|agent| sheet.marks(agent).all(|difficult| difficult))
             .collect();
         Self::with(sheet, |agent, chore| {
             sheet.is_difficult(agent, chore) && !only_difficult[agent]

@@ -1,36 +1,50 @@
 //! What `shares` prints, and the lines that `why` prints too.
 
-use crate::book::{allocate_book, chores_of, sheets_of, BookShareOut, SheetShareOut, Tally};
-use crate::limits::{BOOK_ENTRIES, MIN_SCRATCH};
+use crate::book::{chores_of, sheets_of, Tally};
+use crate::limits::{MAX_CHORES, MIN_SCRATCH};
+use crate::share_out::{allocate, ShareOut};
 use std::fmt::Display;
 
 /// The whole print for one book.
 pub fn shares(book: &[u8]) -> String {
-    let mut owners = vec![0; BOOK_ENTRIES];
-    let mut prices = vec![0; BOOK_ENTRIES];
-    let mut scratch = vec![0; MIN_SCRATCH];
-    let (sheets, total) = match allocate_book(book, &mut owners, &mut prices, &mut scratch) {
-        BookShareOut::Refused(number) => return book_refused(number),
-        BookShareOut::Shared { sheets, total } => (sheets, total),
+    sheet_by_sheet(book, sheet_lines)
+}
+
+/// The lines of each sheet, which add to the tally, and the tally after them.
+pub fn sheet_by_sheet(
+    book: &[u8],
+    mut lines: impl FnMut(usize, &[u8], &mut Tally) -> String,
+) -> String {
+    let bodies = match sheets_of(book) {
+        Ok(bodies) => bodies,
+        Err(number) => return book_refused(number),
     };
-    let bodies = sheets_of(book).expect("the book was accepted");
+    let mut total = Tally::default();
     let mut print = String::new();
-    for (index, (sheet, body)) in sheets.iter().zip(bodies).enumerate() {
-        let number = index + 1;
-        match *sheet {
-            SheetShareOut::Refused(refusal) => print += &sheet_refused(number, refusal),
-            SheetShareOut::Shared { moves, cuts, first } => {
-                let stretch = first..first + chores_of(body);
-                print += &sheet_shared(number, moves, cuts);
-                print += &line("owners", &owners[stretch.clone()]);
-                print += &line("prices", &prices[stretch]);
-            }
-        }
+    for (index, body) in bodies.into_iter().enumerate() {
+        print += &lines(index + 1, body, &mut total);
     }
     print + &total_line(total)
 }
 
-pub fn book_refused(number: u8) -> String {
+fn sheet_lines(number: usize, sheet: &[u8], total: &mut Tally) -> String {
+    let mut owners = [0; MAX_CHORES];
+    let mut prices = [0; MAX_CHORES];
+    let (moves, cuts) = match allocate(sheet, &mut owners, &mut prices, &mut [0; MIN_SCRATCH]) {
+        ShareOut::Refused(refusal) => return sheet_refused(number, refusal),
+        ShareOut::Shared { moves, cuts } => (moves, cuts),
+    };
+    total.add(moves, cuts);
+    let chores = chores_of(sheet);
+    [
+        sheet_shared(number, moves, cuts),
+        line("owners", &owners[..chores]),
+        line("prices", &prices[..chores]),
+    ]
+    .concat()
+}
+
+fn book_refused(number: u8) -> String {
     format!("book refused {number}\n")
 }
 
@@ -42,7 +56,7 @@ pub fn sheet_shared(number: usize, moves: u64, cuts: u8) -> String {
     format!("sheet {number} moves {moves} cuts {cuts}\n")
 }
 
-pub fn total_line(total: Tally) -> String {
+fn total_line(total: Tally) -> String {
     format!("total moves {} cuts {}\n", total.moves, total.cuts)
 }
 

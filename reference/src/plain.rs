@@ -75,10 +75,9 @@ impl Plain {
     /// liked so far still has its dear price.
     fn open_row(&mut self, sheet: &Sheet, agent: usize) {
         let dear = self.difficult * self.difficult;
-        let marked = |chore: usize| sheet.is_difficult(agent, chore);
-        let only_difficult = (0..self.chores).all(marked);
-        for chore in 0..self.chores {
-            if marked(chore) && !only_difficult {
+        let only_difficult = sheet.difficult_marks(agent) == self.chores;
+        for (chore, difficult) in sheet.marks(agent).enumerate() {
+            if difficult && !only_difficult {
                 self.cost.push(self.difficult);
                 continue;
             }
@@ -217,9 +216,6 @@ impl Plain {
     ) -> usize {
         let mut found = 0;
         for receiver in 0..self.agents {
-            if found == unreached {
-                break;
-            }
             if self.distance[receiver] != ring {
                 continue;
             }
@@ -236,6 +232,9 @@ impl Plain {
                     self.distance[giver] = ring + 1;
                     link[giver] = (receiver, chore);
                     found += 1;
+                    if found == unreached {
+                        return found;
+                    }
                 }
             }
         }

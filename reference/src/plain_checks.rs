@@ -2,7 +2,7 @@
 //! is decided on a sheet of any size.
 
 use crate::checks::{accepted, ListVerdict, PriceVerdict};
-use crate::limits::{MAX_AGENTS, MAX_CHORES, MAX_PRICE};
+use crate::limits::{MAX_AGENTS, MAX_PRICE};
 use crate::price_bytes::{self, PRICE_BYTES};
 use crate::refusal;
 use crate::sheet::Sheet;
@@ -71,15 +71,10 @@ fn first_unfair_pair(sheet: &Sheet, owner: &[u8]) -> Option<(usize, usize)> {
     })
 }
 
-/// What each agent's chores cost `judge`. The costs are taken first, so that
-/// several can be taken at once.
+/// What each agent's chores cost `judge`.
 fn bundle_costs(sheet: &Sheet, owner: &[u8], judge: usize) -> [u32; MAX_AGENTS] {
-    let mut costs = [0; MAX_CHORES];
-    for (entry, cost) in costs.iter_mut().zip(sheet.costs(judge)) {
-        *entry = cost;
-    }
     let mut bundle = [0; MAX_AGENTS];
-    for (&holder, cost) in owner.iter().zip(costs) {
+    for (&holder, cost) in owner.iter().zip(sheet.costs(judge)) {
         bundle[usize::from(holder)] += cost;
     }
     bundle

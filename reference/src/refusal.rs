@@ -6,7 +6,7 @@ pub const AGENTS: u8 = 1;
 pub const CHORES: u8 = 2;
 /// Weights that are not 1 <= easy < difficult <= the limit.
 pub const WEIGHTS: u8 = 3;
-/// A mark that is neither easy nor difficult.
+/// A set bit after the last chore of a row.
 pub const MARK: u8 = 4;
 /// A sheet of the wrong length.
 pub const LENGTH: u8 = 5;

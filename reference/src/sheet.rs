@@ -3,9 +3,15 @@
 use crate::limits::{MAX_AGENTS, MAX_CHORES, MAX_WEIGHT};
 use crate::refusal;
 
-pub const HEADER_BYTES: usize = 6;
-pub const EASY_MARK: u8 = b'e';
-pub const DIFFICULT_MARK: u8 = b'd';
+pub const HEADER_BYTES: usize = 7;
+
+/// Bytes of a sheet at its limits.
+pub const MAX_SHEET_BYTES: usize = HEADER_BYTES + MAX_AGENTS * row_bytes(MAX_CHORES);
+
+/// Bytes of a row: a bit for each mark, and the next row on a fresh byte.
+pub const fn row_bytes(chores: usize) -> usize {
+    chores.div_ceil(8)
+}
 
 /// A sheet that breaks no rule.
 #[derive(Debug, Clone, Copy)]
@@ -14,6 +20,7 @@ pub struct Sheet<'a> {
     pub chores: usize,
     pub easy: u32,
     pub difficult: u32,
+    /// All rows, one after the other.
     marks: &'a [u8],
 }
 
@@ -26,9 +33,9 @@ impl<'a> Sheet<'a> {
         let (header, marks) = bytes.split_at(HEADER_BYTES);
         let sheet = Sheet {
             agents: usize::from(header[0]),
-            chores: usize::from(header[1]),
-            easy: two_bytes(header[2], header[3]),
-            difficult: two_bytes(header[4], header[5]),
+            chores: usize::from(two_bytes(header[1], header[2])),
+            easy: two_bytes(header[3], header[4]).into(),
+            difficult: two_bytes(header[5], header[6]).into(),
             marks,
         };
         sheet.check()?;
@@ -45,41 +52,59 @@ impl<'a> Sheet<'a> {
         if self.easy == 0 || self.difficult <= self.easy || self.difficult > MAX_WEIGHT {
             return Err(refusal::WEIGHTS);
         }
-        if self.marks.len() != self.agents * self.chores {
+        if self.marks.len() != self.agents * row_bytes(self.chores) {
             return Err(refusal::LENGTH);
         }
-        let known = |mark: &u8| *mark == EASY_MARK || *mark == DIFFICULT_MARK;
-        if !self.marks.iter().all(known) {
+        if (0..self.agents).any(|agent| self.goes_on(agent)) {
             return Err(refusal::MARK);
         }
         Ok(())
     }
 
-    pub fn is_difficult(&self, agent: usize, chore: usize) -> bool {
-        self.row(agent)[chore] == DIFFICULT_MARK
+    /// Whether a bit after an agent's last mark is set.
+    fn goes_on(&self, agent: usize) -> bool {
+        let bits = 8 * row_bytes(self.chores);
+        (self.chores..bits).any(|place| self.bit(agent, place) == 1)
     }
 
-    /// What a chore costs an agent, as marked.
+    pub fn is_difficult(&self, agent: usize, chore: usize) -> bool {
+        self.bit(agent, chore) == 1
+    }
+
+    /// For each chore, whether an agent finds it difficult.
+    pub fn marks(&self, agent: usize) -> impl Iterator<Item = bool> + '_ {
+        (0..self.chores).map(move |chore| self.is_difficult(agent, chore))
+    }
+
+    /// How many chores an agent finds difficult, by the ones of its row.
+    pub fn difficult_marks(&self, agent: usize) -> usize {
+        let ones = self.row(agent).iter().map(|byte| byte.count_ones());
+        ones.sum::<u32>() as usize
+    }
+
+    /// What a chore costs an agent, as marked. Without a branch.
     pub fn cost(&self, agent: usize, chore: usize) -> u32 {
-        self.mark_cost(self.row(agent)[chore])
+        self.easy + (self.difficult - self.easy) * self.bit(agent, chore)
     }
 
     /// What each chore costs an agent, as marked.
     pub fn costs(&self, agent: usize) -> impl Iterator<Item = u32> + '_ {
-        self.row(agent).iter().map(|&mark| self.mark_cost(mark))
+        (0..self.chores).map(move |chore| self.cost(agent, chore))
     }
 
-    /// An agent's marks: the one place where marks are read.
+    /// The one place where marks are read: 1 for difficult, high bit first.
+    fn bit(&self, agent: usize, place: usize) -> u32 {
+        let byte = self.row(agent)[place / 8];
+        u32::from(byte >> (7 - place % 8) & 1)
+    }
+
+    /// The bytes of an agent's row.
     pub fn row(&self, agent: usize) -> &'a [u8] {
-        &self.marks[agent * self.chores..][..self.chores]
-    }
-
-    /// Without a branch: the difficult mark's byte is one below the easy one's.
-    fn mark_cost(&self, mark: u8) -> u32 {
-        self.easy + (self.difficult - self.easy) * u32::from(EASY_MARK - mark)
+        let bytes = row_bytes(self.chores);
+        &self.marks[agent * bytes..][..bytes]
     }
 }
 
-fn two_bytes(high: u8, low: u8) -> u32 {
-    u32::from(high) * 256 + u32::from(low)
+fn two_bytes(high: u8, low: u8) -> u16 {
+    u16::from_be_bytes([high, low])
 }

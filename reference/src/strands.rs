@@ -4,7 +4,7 @@
 use crate::compose;
 use crate::limits::MAX_CHORES;
 use crate::refusal;
-use crate::sheet::{Sheet, HEADER_BYTES};
+use crate::sheet::Sheet;
 
 #[derive(Debug, Clone, Copy, PartialEq, Eq)]
 pub enum Join {
@@ -22,7 +22,7 @@ pub enum Strand {
     Second = 2,
 }
 
-/// The row of an agent, as that stretch of the strand's own sheet.
+/// The bytes of an agent's row, as that stretch of the strand's own sheet.
 #[derive(Debug, Clone, Copy, PartialEq, Eq)]
 pub struct Shown<'a> {
     pub strand: Strand,
@@ -61,15 +61,13 @@ impl<'a> Strands<'a> {
 
     /// Agent by agent, the second strand's marks after the first's.
     fn joined(&self) -> Vec<u8> {
-        let (agents, chores) = (self.agents(), self.chores());
-        let mut bytes = Vec::with_capacity(HEADER_BYTES + agents * chores);
         let Sheet {
             easy, difficult, ..
         } = self.first;
-        bytes.extend(compose::header(agents, chores, easy, difficult));
-        for agent in 0..agents {
-            bytes.extend(self.first.row(agent));
-            bytes.extend(self.second.row(agent));
+        let mut bytes = compose::header(self.agents(), self.chores(), easy, difficult).to_vec();
+        for agent in 0..self.agents() {
+            let marks = self.first.marks(agent).chain(self.second.marks(agent));
+            bytes.extend(compose::packed(marks));
         }
         bytes
     }

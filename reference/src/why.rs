@@ -1,8 +1,8 @@
 //! What `why` prints: every move between the opening and the final list.
 
-use crate::book::{chores_of, sheets_of, Tally};
+use crate::book::{chores_of, Tally};
 use crate::limits::{MAX_CHORES, MIN_SCRATCH, WHY_RECORD_BYTES};
-use crate::output::{book_refused, line, sheet_refused, sheet_shared, total_line};
+use crate::output::{line, sheet_by_sheet, sheet_refused, sheet_shared};
 use crate::record::{self, MOVE_BYTES};
 use crate::share_out::{opening, ShareOut};
 use crate::sheet::Sheet;
@@ -14,17 +14,10 @@ pub fn why(book: &[u8]) -> String {
 
 /// The same with a record of so many bytes for each sheet.
 pub fn why_lending(record_bytes: usize, book: &[u8]) -> String {
-    let bodies = match sheets_of(book) {
-        Ok(bodies) => bodies,
-        Err(number) => return book_refused(number),
-    };
     let mut record = vec![0; record_bytes];
-    let mut total = Tally::default();
-    let mut print = String::new();
-    for (index, body) in bodies.into_iter().enumerate() {
-        print += &sheet_lines(index + 1, body, &mut record, &mut total);
-    }
-    print + &total_line(total)
+    sheet_by_sheet(book, |number, sheet, total| {
+        sheet_lines(number, sheet, &mut record, total)
+    })
 }
 
 fn sheet_lines(number: usize, sheet: &[u8], record: &mut [u8], total: &mut Tally) -> String {

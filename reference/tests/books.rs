@@ -2,9 +2,9 @@
 
 mod common;
 
-use common::{a, b, c, e, share, Random};
+use common::{a, b, c, chores_of, e, share, Random};
 use reference::limits::{BOOK_ENTRIES, MIN_SCRATCH};
-use reference::output::shares;
+use reference::output::{line, shares};
 use reference::{allocate_book, compose, lookup, BookShareOut, SheetShareOut, Tally};
 
 /// A book's share-out, and whether all that was lent kept its content.
@@ -78,6 +78,7 @@ fn length_of_a_book() {
     let longest = compose::book(&[vec![1; 65_530]]);
     assert_eq!(longest.len(), 65_535);
     assert_eq!(lookup(&longest, 1).map(<[u8]>::len), Ok(65_530));
+    // 257 chores, and both weights 257.
     assert_eq!(
         shares(&longest),
         "sheet 1 refused 3\ntotal moves 0 cuts 0\n"
@@ -117,7 +118,7 @@ fn lent_lists_of_a_book() {
 
 #[test]
 fn refused_sheets_take_no_entries() {
-    let bodies = [vec![], b(), vec![0; 6], a(), c(), b"short".to_vec(), e()];
+    let bodies = [vec![], b(), vec![0; 7], a(), c(), b"short".to_vec(), e()];
     let book = compose::book(&bodies);
     let mut owners = vec![77; BOOK_ENTRIES + 5];
     let mut prices = vec![78; BOOK_ENTRIES + 2];
@@ -144,7 +145,7 @@ fn refused_sheets_take_no_entries() {
 
 #[test]
 fn a_book_of_refused_sheets_clears_the_scratch() {
-    let book = compose::book(&[vec![], vec![33; 6]]);
+    let book = compose::book(&[vec![], vec![33; 7]]);
     let mut owners = vec![77; BOOK_ENTRIES];
     let mut prices = vec![78; BOOK_ENTRIES];
     let mut scratch = vec![79; MIN_SCRATCH];
@@ -159,7 +160,7 @@ fn a_book_of_refused_sheets_clears_the_scratch() {
 
 #[test]
 fn a_full_book_fills_the_lists() {
-    let sheet = Random::new(13).sheet(3, 200);
+    let sheet = Random::new(13).sheet(3, 4_000);
     let book = compose::book(&vec![sheet.clone(); 16]);
     let mut owners = vec![0; BOOK_ENTRIES];
     let mut prices = vec![0; BOOK_ENTRIES];
@@ -171,7 +172,7 @@ fn a_full_book_fills_the_lists() {
     let shared = |index: usize| SheetShareOut::Shared {
         moves,
         cuts,
-        first: 200 * index,
+        first: 4_000 * index,
     };
     let sheets = (0..16).map(shared).collect();
     let total = Tally {
@@ -181,6 +182,53 @@ fn a_full_book_fills_the_lists() {
     assert_eq!(answer, BookShareOut::Shared { sheets, total });
 }
 
+/// What `shares` prints, put together out of a book's share-out.
+fn print_of(book: &[u8]) -> String {
+    let mut owners = vec![0; BOOK_ENTRIES];
+    let mut prices = vec![0; BOOK_ENTRIES];
+    let mut scratch = vec![0; MIN_SCRATCH];
+    let answer = allocate_book(book, &mut owners, &mut prices, &mut scratch);
+    let BookShareOut::Shared { sheets, total } = answer else {
+        panic!("{answer:?}")
+    };
+    let mut print = String::new();
+    for (sheet, number) in sheets.iter().zip(1..) {
+        print += &match *sheet {
+            SheetShareOut::Refused(refusal) => format!("sheet {number} refused {refusal}\n"),
+            SheetShareOut::Shared { moves, cuts, first } => {
+                let end = first + chores_of(lookup(book, number).unwrap());
+                [
+                    format!("sheet {number} moves {moves} cuts {cuts}\n"),
+                    line("owners", &owners[first..end]),
+                    line("prices", &prices[first..end]),
+                ]
+                .concat()
+            }
+        };
+    }
+    let Tally { moves, cuts } = total;
+    print + &format!("total moves {moves} cuts {cuts}\n")
+}
+
+#[test]
+fn the_print_sheet_by_sheet_is_that_of_the_book() {
+    let mut random = Random::new(14);
+    for round in 0..300 {
+        let mut body = || {
+            let (agents, chores) = match round % 100 {
+                0 => (1 + random.below(4), 4_000 - random.below(9)),
+                _ => (1 + random.below(6), random.below(20)),
+            };
+            let mut sheet = random.sheet(agents, chores);
+            sheet.truncate(sheet.len() - usize::from(random.below(8) == 0));
+            sheet
+        };
+        let bodies: Vec<Vec<u8>> = (0..16).map(|_| body()).collect();
+        let book = compose::book(&bodies);
+        assert_eq!(shares(&book), print_of(&book));
+    }
+}
+
 #[test]
 fn the_print() {
     let of_c = "sheet 1 moves 3 cuts 1\n\
@@ -188,14 +236,14 @@ fn the_print() {
                 prices 3 3 3 3 1\n\
                 total moves 3 cuts 1\n";
     assert_eq!(shares(&compose::book(&[c()])), of_c);
-    let mut unknown_mark = b();
-    unknown_mark[7] = b'f';
+    let mut bit_set = b();
+    bit_set[7] |= 1;
     let mixed = "sheet 1 moves 0 cuts 0\nowners\nprices\n\
                  sheet 2 refused 4\n\
                  sheet 3 moves 3 cuts 1\nowners 2 2 1 1 2\nprices 3 3 3 3 1\n\
                  sheet 4 refused 5\n\
                  sheet 5 moves 2 cuts 0\nowners 2 2 1 1\nprices 3 3 3 3\n\
                  total moves 5 cuts 1\n";
-    let bodies = [a(), unknown_mark, c(), vec![], b()];
+    let bodies = [a(), bit_set, c(), vec![], b()];
     assert_eq!(shares(&compose::book(&bodies)), mixed);
 }

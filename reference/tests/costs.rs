@@ -24,7 +24,7 @@ fn the_cost_of_either_mark_at_any_weights() {
 fn the_costs_of_any_sheet() {
     let mut random = Random::new(51);
     for _ in 0..1_000 {
-        let (agents, chores) = (1 + random.below(32), random.below(201));
+        let (agents, chores) = random.size();
         let bytes = random.sheet(agents, chores);
         let sheet = Sheet::parse(&bytes).unwrap();
         let table = Costs::as_marked(&sheet);

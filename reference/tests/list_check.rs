@@ -85,27 +85,27 @@ fn domination() {
 
 #[test]
 fn large_sheets_are_not_guessed_at() {
-    let rows = vec!["e".repeat(200); 32];
+    let rows = vec!["e".repeat(4_000); 32];
     let large = compose::sheet(1, 2, &rows);
-    let even: Vec<u8> = (0..200).map(|chore| chore % 32 + 1).collect();
-    let mut shown = [9; 200];
+    let even: Vec<u8> = (0..4_000).map(|chore| (chore % 32 + 1) as u8).collect();
+    let mut shown = [9; 4_000];
     assert!(!is_small_enough(&large));
     assert_eq!(
         check_list(&large, &even, &mut shown),
         ListVerdict::Undecided
     );
     assert_eq!(
-        check_list(&large, &[5; 200], &mut shown),
+        check_list(&large, &[5; 4_000], &mut shown),
         ListVerdict::Unfair(5, 1)
     );
-    assert_eq!(shown, [9; 200]);
+    assert_eq!(shown, [9; 4_000]);
     let chores = |m: usize| is_small_enough(&compose::sheet(1, 2, &vec!["e".repeat(m); 2]));
     assert!(chores(20));
     assert!(!chores(21));
     // A single agent has a single allocation.
-    let single = compose::sheet(1, 2, &["d".repeat(200)]);
+    let single = compose::sheet(1, 2, &["d".repeat(4_000)]);
     assert_eq!(
-        check_list(&single, &[1; 200], &mut shown),
+        check_list(&single, &[1; 4_000], &mut shown),
         ListVerdict::Holds
     );
     assert!(!is_small_enough(&c()[1..]));

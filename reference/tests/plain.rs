@@ -3,6 +3,7 @@
 mod common;
 
 use common::Random;
+use reference::limits::{MAX_AGENTS, MAX_CHORES};
 use reference::sheet::Sheet;
 use reference::{plain, share_out};
 
@@ -28,10 +29,21 @@ fn sheets_of_any_size() {
     let mut random = Random::new(22);
     let (mut moves, mut cuts) = (0, 0);
     for _ in 0..1_500 {
-        let (agents, chores) = (1 + random.below(32), random.below(201));
+        let (agents, chores) = random.size();
         let (of_moves, of_cuts) = compare(&random.sheet(agents, chores));
         moves = of_moves.max(moves);
         cuts = of_cuts.max(cuts);
     }
-    assert!(moves > 100 && cuts > 5, "{moves} {cuts}");
+    assert!(moves > 1_000 && cuts > 5, "{moves} {cuts}");
+}
+
+#[test]
+fn the_largest_sheets() {
+    let mut random = Random::new(23);
+    let mut most = 0;
+    for _ in 0..8 {
+        let (moves, _) = compare(&random.sheet(MAX_AGENTS, MAX_CHORES));
+        most = moves.max(most);
+    }
+    assert!(most > 2_000, "{most}");
 }

@@ -3,7 +3,7 @@
 mod common;
 
 use common::{all_lists, as_bytes, c, d, e, every_rows, owner_bytes, share, tiny_sizes, Random};
-use reference::limits::MAX_PRICE;
+use reference::limits::{MAX_AGENTS, MAX_CHORES, MAX_PRICE};
 use reference::{check_list, compose, dominates, plain_checks, price_bytes};
 use reference::{ListVerdict, PriceVerdict};
 
@@ -116,7 +116,10 @@ fn lists_of_sheets_of_any_size() {
     let mut random = Random::new(62);
     let mut seen = [0; 4];
     for _ in 0..1_500 {
-        let (agents, chores) = (5 + random.below(28), 10 + random.below(191));
+        let (agents, chores) = match random.below(30) {
+            0 => (2 + random.below(5), 4_000 - random.below(9)),
+            _ => (5 + random.below(28), 10 + random.below(191)),
+        };
         let sheet = random.sheet(agents, chores);
         let (owners, _) = near_fair(&mut random, &sheet);
         let lent = chores + random.below(3);
@@ -131,7 +134,7 @@ fn damaged(random: &mut Random, bytes: &[u8]) -> Vec<u8> {
     let mut bytes = bytes.to_vec();
     for _ in 0..random.below(3) {
         let at = random.below(bytes.len() + 1);
-        let byte = [0, 1, 2, 4, 33, 100, 101, 201, 255][random.below(9)];
+        let byte = [0, 1, 2, 4, 16, 33, 64, 128, 255][random.below(9)];
         match random.below(4) {
             0 => bytes.insert(at, byte),
             1 if at < bytes.len() => drop(bytes.remove(at)),
@@ -188,10 +191,10 @@ fn prices_of_sheets_of_any_size() {
     let mut random = Random::new(64);
     let mut seen = [0; 4];
     for _ in 0..3_000 {
-        let (agents, chores) = (1 + random.below(32), 1 + random.below(200));
+        let (agents, chores) = random.size();
         let sheet = random.sheet(agents, chores);
         let (owners, mut prices) = near_fair(&mut random, &sheet);
-        if random.below(3) == 0 {
+        if chores > 0 && random.below(3) == 0 {
             prices[random.below(chores)] = 1 + random.below(MAX_PRICE as usize) as u32;
         }
         compare_prices(&sheet, &owners, &as_bytes(&prices), &mut seen);
@@ -205,15 +208,14 @@ fn prices_of_sheets_of_any_size() {
 fn the_dearest_prices_of_the_largest_sheets() {
     let mut random = Random::new(65);
     let mut seen = [0; 4];
-    let prices = as_bytes(&[MAX_PRICE; 200]);
-    for _ in 0..500 {
+    let prices = as_bytes(&[MAX_PRICE; MAX_CHORES]);
+    for holders in 1..=MAX_AGENTS {
         let mark = ["e", "d"][random.below(2)];
-        let sheet = compose::sheet(999, 1_000, &vec![mark.repeat(200); 32]);
-        let holders = 1 + random.below(32);
-        let owners = random.owners(holders, 200);
+        let sheet = compose::sheet(999, 1_000, &vec![mark.repeat(MAX_CHORES); MAX_AGENTS]);
+        let owners = random.owners(holders, MAX_CHORES);
         compare_prices(&sheet, &owners, &prices, &mut seen);
     }
-    assert_eq!(seen, [0, 0, 500, 0]);
+    assert_eq!(seen, [0, 0, MAX_AGENTS, 0]);
 }
 
 #[test]

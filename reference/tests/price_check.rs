@@ -79,8 +79,8 @@ fn the_dearest_chore_is_taken_off() {
 
 #[test]
 fn the_dearest_prices_of_the_largest_sheet() {
-    let sheet = compose::sheet(999, 1_000, &vec!["e".repeat(200); 32]);
-    let verdict = check_prices(&sheet, &[32; 200], &[1_000_000; 200]);
+    let sheet = compose::sheet(999, 1_000, &vec!["e".repeat(4_000); 32]);
+    let verdict = check_prices(&sheet, &[32; 4_000], &[1_000_000; 4_000]);
     assert_eq!(verdict, PriceVerdict::PriceEnvy(32, 1));
 }
 

@@ -69,7 +69,7 @@ fn random_large_sheets() {
         // Now and then the largest of all.
         let (agents, chores) = match round % 10 {
             0 => (32, 200),
-            _ => (1 + random.below(32), random.below(201)),
+            _ => random.size(),
         };
         let sheet = random.sheet(agents, chores);
         let (owners, prices, _, cuts) = share(&sheet).unwrap();

@@ -2,7 +2,7 @@
 
 mod common;
 
-use common::{a, b, c, d, e, f, g, share, Random};
+use common::{a, b, c, chores_of, d, e, f, g, share, Random};
 use reference::limits::MIN_SCRATCH;
 use reference::record::{self, MOVE_BYTES};
 use reference::share_out::opening;
@@ -91,7 +91,7 @@ fn a_short_record_is_refused() {
 
 #[test]
 fn the_rest_of_a_record_is_kept() {
-    for length in [18, 19, 24, 65_532] {
+    for length in [18, 19, 24, 120_000] {
         let (answer, lent) = share_recorded(&c(), length);
         assert_eq!(answer, ShareOut::Shared { moves: 3, cuts: 1 });
         assert_eq!(lent.owners, [2, 2, 1, 1, 2, 77]);
@@ -112,14 +112,26 @@ fn no_moves_need_no_record() {
     assert_eq!(lent.record, [80; 7]);
 }
 
-/// The opening list, straight from the bytes of a sheet that has chores.
+/// The rows of a sheet, straight from its bytes: a digit for each mark, 1 for
+/// difficult.
+fn digits(sheet: &[u8]) -> Vec<String> {
+    let chores = chores_of(sheet);
+    let row = |bytes: &[u8]| {
+        let digits: String = bytes.iter().map(|byte| format!("{byte:08b}")).collect();
+        digits[..chores].to_string()
+    };
+    let bytes = chores.div_ceil(8).max(1);
+    sheet[7..].chunks(bytes).map(row).collect()
+}
+
+/// The opening list, by those digits.
 fn opening_of(sheet: &[u8]) -> Vec<u8> {
-    let chores = usize::from(sheet[1]);
-    let easy = |row: &[u8], chore: usize| row[chore] == b'e' || !row.contains(&b'e');
+    let rows = digits(sheet);
+    let easy = |row: &str, chore: usize| row.as_bytes()[chore] == b'0' || !row.contains('0');
     // Agents with the number of their chores first, so that the fewest lead.
     let mut queue: BTreeSet<(usize, u8)> = (1..=sheet[0]).map(|agent| (0, agent)).collect();
     let mut owner = |chore: usize| {
-        let mut rows = sheet[6..].chunks(chores).zip(1..);
+        let mut rows = rows.iter().zip(1..);
         let liking = rows.find(|(row, _)| easy(row, chore));
         let agent = liking.map_or(queue.first().unwrap().1, |(_, agent)| agent);
         let of_agent = |place: &&(usize, u8)| place.1 == agent;
@@ -128,7 +140,7 @@ fn opening_of(sheet: &[u8]) -> Vec<u8> {
         queue.insert((place.0 + 1, agent));
         agent
     };
-    (0..chores).map(&mut owner).collect()
+    (0..chores_of(sheet)).map(&mut owner).collect()
 }
 
 /// Plays a record over the opening list: each giver owns what it hands over,
@@ -178,8 +190,8 @@ fn random_sheets() {
     let (mut most_cuts, mut all) = (0, [0; 2]);
     for round in 0..12_000 {
         let (agents, chores) = match round % 20 {
-            0 => (1 + random.below(32), 1 + random.below(200)),
-            _ => (1 + random.below(8), 1 + random.below(30)),
+            0 => random.size(),
+            _ => (1 + random.below(8), random.below(31)),
         };
         let (cuts, moves) = judge(&random.sheet(agents, chores));
         most_cuts = cuts.max(most_cuts);

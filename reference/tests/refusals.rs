@@ -13,8 +13,8 @@ fn allocate_finds_the_first_of_any_faults() {
     for faults in 1..1_usize << numbers.len() {
         let has = |fault: usize| faults >> fault & 1 == 1;
         let sheet = faulty_sheet(2, 4, faults);
-        let mut owners = vec![77; if has(6) { 3 } else { 210 }];
-        let mut prices = vec![78; if has(7) { 3 } else { 210 }];
+        let mut owners = vec![77; if has(6) { 3 } else { 4_001 }];
+        let mut prices = vec![78; if has(7) { 3 } else { 4_001 }];
         let mut scratch = vec![79; if has(8) { MIN_SCRATCH - 1 } else { MIN_SCRATCH }];
         let expected = first_fault(faults, &numbers).unwrap();
         let answer = allocate(&sheet, &mut owners, &mut prices, &mut scratch);
@@ -31,8 +31,8 @@ fn a_recorded_share_out_finds_the_first_of_any_faults() {
     for faults in 1..1_usize << numbers.len() {
         let has = |fault: usize| faults >> fault & 1 == 1;
         let sheet = faulty_sheet(2, 4, faults);
-        let mut owners = vec![77; if has(6) { 3 } else { 210 }];
-        let mut prices = vec![78; if has(7) { 3 } else { 210 }];
+        let mut owners = vec![77; if has(6) { 3 } else { 4_001 }];
+        let mut prices = vec![78; if has(7) { 3 } else { 4_001 }];
         let mut scratch = vec![79; if has(8) { MIN_SCRATCH - 1 } else { MIN_SCRATCH }];
         // Where the sheet is accepted, it takes 2 moves.
         let mut made = vec![80; if has(9) { 11 } else { 12 }];
@@ -89,22 +89,23 @@ fn check_prices_finds_the_first_of_any_faults() {
 
 #[test]
 fn short_sheets() {
-    for length in 0..6 {
+    for length in 0..7 {
         assert_eq!(share(&c()[..length]), Err(5));
         // Also where the bytes that are there break another rule.
-        assert_eq!(share(&[0, 255, 0, 0, 0][..length.min(5)]), Err(5));
+        assert_eq!(share(&[0, 255, 255, 0, 0, 0][..length.min(6)]), Err(5));
     }
 }
 
 #[test]
 fn sheet_headers() {
     // Agents, chores, easy weight, difficult weight, with no marks.
-    let table: [(u8, u8, u16, u16, u8); 12] = [
+    let table: [(u8, u16, u16, u16, u8); 15] = [
         (0, 0, 1, 2, 1),
         (33, 0, 1, 2, 1),
-        (255, 255, 0, 0, 1),
-        (1, 201, 1, 2, 2),
-        (32, 255, 0, 0, 2),
+        (255, 65_535, 0, 0, 1),
+        (1, 4_001, 1, 2, 2),
+        (1, 4_096, 1, 2, 2),
+        (32, 65_535, 0, 0, 2),
         (1, 1, 0, 2, 3),
         (1, 1, 0, 0, 3),
         (1, 1, 2, 1, 3),
@@ -112,31 +113,15 @@ fn sheet_headers() {
         (1, 1, 999, 1_001, 3),
         (1, 1, 256, 255, 3),
         (1, 1, 999, 1_000, 5),
+        (1, 256, 999, 1_000, 5),
+        (1, 4_000, 999, 1_000, 5),
     ];
     for (agents, chores, easy, difficult, number) in table {
-        let mut sheet = vec![agents, chores];
-        sheet.extend(easy.to_be_bytes());
-        sheet.extend(difficult.to_be_bytes());
-        assert_eq!(share(&sheet), Err(number), "{sheet:?}");
-    }
-}
-
-#[test]
-fn lengths_and_marks() {
-    let sheet = c();
-    assert_eq!(share(&sheet[..sheet.len() - 1]), Err(5));
-    assert_eq!(share(&[&sheet[..], b"e"].concat()), Err(5));
-    assert_eq!(
-        share(&compose::sheet(1, 2, &["", "", ""])),
-        Ok((vec![], vec![], 0, 0))
-    );
-    for place in 6..sheet.len() {
-        for mark in 0..=255 {
-            let mut marked = sheet.clone();
-            marked[place] = mark;
-            let known = mark == 0x65 || mark == 0x64;
-            assert_eq!(share(&marked).err(), (!known).then_some(4));
+        let mut sheet = vec![agents];
+        for two_bytes in [chores, easy, difficult] {
+            sheet.extend(two_bytes.to_be_bytes());
         }
+        assert_eq!(share(&sheet), Err(number), "{sheet:?}");
     }
 }
 

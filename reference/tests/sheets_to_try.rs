@@ -68,8 +68,8 @@ fn limits_of_a_sheet() {
     assert!(agents(32).is_ok());
     assert_eq!(agents(33), Err(1));
     let chores = |m: usize| share(&compose::sheet(1, 2, &["e".repeat(m), "d".repeat(m)]));
-    assert!(chores(200).is_ok());
-    assert_eq!(chores(201), Err(2));
+    assert!(chores(4_000).is_ok());
+    assert_eq!(chores(4_001), Err(2));
     let weight = |b: u16| share(&compose::sheet(1, b, &["ed", "de"]));
     assert_eq!(weight(1_000), Ok((vec![1, 2], vec![1_000, 1_000], 0, 0)));
     assert_eq!(weight(1_001), Err(3));
@@ -90,26 +90,26 @@ fn limit_of_the_scratch() {
 #[test]
 fn printed_cases() {
     let c = "moves 3 cuts 1 owners 2 2 1 1 2 prices 3 3 3 3 1";
-    let wide = [" 2".repeat(100), " 1".repeat(100)].concat();
+    let wide = [" 2".repeat(2_000), " 1".repeat(2_000)].concat();
     let print = [
         "n 32 moves 1 cuts 0 owners 3 1 2 prices 2 2 4",
         "n 33 refused 1",
         &format!(
-            "m 200 moves 100 cuts 0 owners{wide} prices{}",
-            " 2".repeat(200)
+            "m 4000 moves 2000 cuts 0 owners{wide} prices{}",
+            " 2".repeat(4_000)
         ),
-        "m 201 refused 2",
+        "m 4001 refused 2",
         "b 1000 moves 3 cuts 1 owners 2 2 1 1 2 prices 1000 1000 1000 1000 1",
         "b 1001 refused 3",
         &format!("scratch 1024 {c}"),
         "scratch 1023 refused 8",
-        "mark x refused 4",
-        "length 15 refused 5",
+        "bit 6 refused 4",
+        "length 8 refused 5",
         "owners 4 refused 6",
         "owner 3 refused 7",
         "price 0 refused 10",
         "sheet 0 refused 9",
-        &format!("sheet 1 of 16 bytes {c}"),
+        &format!("sheet 1 of 9 bytes {c}"),
         "sheet 2 of 0 bytes refused 5",
         "sheet 3 refused 9\n",
     ]

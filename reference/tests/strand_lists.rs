@@ -118,7 +118,7 @@ fn no_part_of_a_share_out_is_wasteful() {
     let mut random = Random::new(62);
     let mut cut = 0;
     for _ in 0..400 {
-        let (agents, chores) = (1 + random.below(32), random.below(201));
+        let (agents, chores) = random.size();
         let of_first = random.below(chores + 1);
         let rows = random.rows(agents, chores);
         let (easy, difficult) = random.weights();

@@ -3,7 +3,7 @@
 
 mod common;
 
-use common::{all_lists, every_rows, owner_bytes, tiny_sizes, Random};
+use common::{all_lists, every_rows, owner_bytes, share, tiny_sizes, Random};
 use reference::costs::Costs;
 use reference::fairness::first_dominating;
 use reference::sheet::Sheet;
@@ -198,6 +198,17 @@ fn assert_not_wasteful(sheet: &[u8], owners: &[u8]) {
     );
 }
 
+/// Goes on from a list until nothing dominates; how many steps that takes.
+fn relieved(sheet: &[u8], mut owners: Vec<u8>) -> usize {
+    let mut steps = 0;
+    while let Some(better) = dominating(sheet, &owners) {
+        owners = better;
+        steps += 1;
+    }
+    assert_not_wasteful(sheet, &owners);
+    steps
+}
+
 #[test]
 fn random_lists_of_sheets_of_any_size_until_nothing_dominates() {
     let mut random = Random::new(53);
@@ -205,12 +216,24 @@ fn random_lists_of_sheets_of_any_size_until_nothing_dominates() {
     for _ in 0..600 {
         let (agents, chores) = (1 + random.below(32), random.below(201));
         let sheet = random.sheet(agents, chores);
-        let mut owners = random.owners(agents, chores);
-        while let Some(better) = dominating(&sheet, &owners) {
-            owners = better;
-            steps += 1;
-        }
-        assert_not_wasteful(&sheet, &owners);
+        steps += relieved(&sheet, random.owners(agents, chores));
     }
     assert!(steps > 10_000, "{steps}");
+}
+
+#[test]
+fn share_outs_of_long_sheets_with_two_owners_exchanged() {
+    let mut random = Random::new(54);
+    let (mut wasteful, mut not) = (0, 0);
+    for _ in 0..60 {
+        let (agents, chores) = (2 + random.below(3), 4_000 - random.below(9));
+        let sheet = random.sheet(agents, chores);
+        let (mut owners, ..) = share(&sheet).unwrap();
+        owners.swap(random.below(chores), random.below(chores));
+        match relieved(&sheet, owners) {
+            0 => not += 1,
+            _ => wasteful += 1,
+        }
+    }
+    assert!(wasteful > 10 && not > 10, "{wasteful} {not}");
 }

@@ -53,8 +53,8 @@ fn a_move_of_step_2a() {
 
 #[test]
 fn accepted_and_refused_sheets() {
-    let mut unknown_mark = b();
-    unknown_mark[7] = b'f';
+    let mut bit_set = b();
+    bit_set[7] |= 1;
     let print = "sheet 1 moves 0 cuts 0\nopening\nowners\nprices\n\
                  sheet 2 refused 4\n\
                  sheet 3 moves 1 cuts 0\nopening 1 1 1\n\
@@ -62,7 +62,7 @@ fn accepted_and_refused_sheets() {
                  owners 2 1 1\nprices 2 2 2\n\
                  sheet 4 refused 5\n\
                  total moves 1 cuts 0\n";
-    let bodies = [a(), unknown_mark, d(), vec![]];
+    let bodies = [a(), bit_set, d(), vec![]];
     assert_eq!(why(&compose::book(&bodies)), print);
     for bytes in [&[][..], &[0], &[255; 2_000], &[0; 65_536]] {
         assert_eq!(why(bytes), "book refused 9\n");

@@ -1,8 +1,9 @@
 //! What several test files share. Each uses only a part of it.
 #![allow(dead_code)]
 
-use reference::limits::{MAX_WEIGHT, MIN_SCRATCH};
+use reference::limits::{MAX_AGENTS, MAX_CHORES, MAX_WEIGHT, MIN_SCRATCH};
 use reference::share_out::owner_byte;
+use reference::sheet::{row_bytes, HEADER_BYTES};
 use reference::{allocate, compose, ShareOut};
 
 /// The sheets to try, by their letter.
@@ -31,9 +32,15 @@ pub fn g() -> Vec<u8> {
 /// The owners, prices, moves and cuts of a sheet, or its refusal number.
 pub type Outcome = Result<(Vec<u8>, Vec<u32>, u64, u8), u8>;
 
+/// The chores of a sheet by its header; 0 where that is cut short.
+pub fn chores_of(sheet: &[u8]) -> usize {
+    let two_bytes = |at: &[u8]| 256 * usize::from(at[0]) + usize::from(at[1]);
+    sheet.get(1..3).map_or(0, two_bytes)
+}
+
 /// Shares a sheet out with lists of its own length, by its header.
 pub fn share(sheet: &[u8]) -> Outcome {
-    let chores = sheet.get(1).copied().map_or(0, usize::from);
+    let chores = chores_of(sheet);
     let mut owners = vec![0; chores];
     let mut prices = vec![0; chores];
     let mut scratch = vec![7; MIN_SCRATCH];
@@ -47,21 +54,23 @@ pub fn share(sheet: &[u8]) -> Outcome {
 pub const SHEET_FAULTS: [u8; 6] = [5, 1, 2, 3, 5, 4];
 
 /// A sheet of easy marks, of this size unless that is a fault, with the faults
-/// whose bits are set, in the order above. Its weights are 2 and 3.
+/// whose bits are set, in the order above. Its weights are 2 and 3. The last of
+/// the faults needs chores that leave bits of a byte over.
 pub fn faulty_sheet(agents: usize, chores: usize, faults: usize) -> Vec<u8> {
     let has = |fault: usize| faults >> fault & 1 == 1;
     let agents = if has(1) { 33 } else { agents };
-    let chores = if has(2) { 201 } else { chores };
+    let chores = if has(2) { 4_001 } else { chores };
     let difficult = if has(3) { 2 } else { 3 };
-    let mut sheet = compose::sheet(2, difficult, &vec!["e".repeat(chores); agents]);
+    let mut sheet = compose::header(agents, chores, 2, difficult).to_vec();
+    sheet.resize(HEADER_BYTES + agents * row_bytes(chores), 0);
     if has(5) {
-        sheet[6] = b'x';
+        *sheet.last_mut().unwrap() |= 1;
     }
     if has(4) {
-        sheet.push(b'e');
+        sheet.push(0);
     }
     if has(0) {
-        sheet.truncate(5);
+        sheet.truncate(6);
     }
     sheet
 }
@@ -123,6 +132,16 @@ impl Random {
         word = (word ^ (word >> 30)).wrapping_mul(0xbf58_476d_1ce4_e5b9);
         word = (word ^ (word >> 27)).wrapping_mul(0x94d0_49bb_1331_11eb);
         ((word ^ (word >> 31)) % bound as u64) as usize
+    }
+
+    /// Any number of agents and up to 200 chores; now and then few agents and up
+    /// to 4,000 chores, often as many or nearly.
+    pub fn size(&mut self) -> (usize, usize) {
+        match self.below(60) {
+            0 => (1 + self.below(4), MAX_CHORES - self.below(9)),
+            1 => (1 + self.below(4), self.below(MAX_CHORES + 1)),
+            _ => (1 + self.below(MAX_AGENTS), self.below(201)),
+        }
     }
 
     /// Weights that keep the rule, often near its ends.
