@@ -15,7 +15,8 @@ typedef struct {
     size_t chores;
     uint32_t easy;        /* the weight of an easy chore */
     uint32_t difficult;   /* the weight of a difficult chore */
-    const uint8_t *marks; /* agent by agent */
+    const uint8_t *marks; /* agent by agent, a bit each */
+    size_t row_bytes;     /* of each agent's marks */
     uint8_t owner[SHARES_MAX_CHORES];
     uint32_t price[SHARES_MAX_CHORES]; /* not set for the list check */
 } Market;
@@ -27,26 +28,45 @@ static uint32_t two_bytes(const uint8_t *at)
     return (uint32_t)at[0] << 8 | at[1];
 }
 
+static size_t row_bytes(size_t chores)
+{
+    return (chores + 7) / 8;
+}
+
+/* A mark, or a bit after the last one. */
+static bool is_set(const Market *market, size_t agent, size_t place)
+{
+    return market->marks[agent * market->row_bytes + place / 8] >> (7 - place % 8) & 1;
+}
+
+static bool has_bits_left(const Market *market, size_t agent)
+{
+    for (size_t k = market->chores; k < 8 * market->row_bytes; k++)
+        if (is_set(market, agent, k))
+            return true;
+    return false;
+}
+
 static uint8_t read_sheet(Market *market, const uint8_t *sheet, size_t length)
 {
     if (length < SHARES_HEADER_BYTES)
         return SHARES_BAD_LENGTH;
     market->agents = sheet[0];
-    market->chores = sheet[1];
-    market->easy = two_bytes(sheet + 2);
-    market->difficult = two_bytes(sheet + 4);
+    market->chores = two_bytes(sheet + 1);
+    market->easy = two_bytes(sheet + 3);
+    market->difficult = two_bytes(sheet + 5);
     market->marks = sheet + SHARES_HEADER_BYTES;
+    market->row_bytes = row_bytes(market->chores);
     if (market->agents == 0 || market->agents > SHARES_MAX_AGENTS)
         return SHARES_BAD_AGENTS;
     if (market->chores > SHARES_MAX_CHORES)
         return SHARES_BAD_CHORES;
     if (market->easy == 0 || market->difficult <= market->easy || market->difficult > SHARES_MAX_WEIGHT)
         return SHARES_BAD_WEIGHTS;
-    size_t marks = market->agents * market->chores;
     if (length != SHARES_SHEET_BYTES(market->agents, market->chores))
         return SHARES_BAD_LENGTH;
-    for (size_t k = 0; k < marks; k++)
-        if (market->marks[k] != 'e' && market->marks[k] != 'd')
+    for (size_t i = 0; i < market->agents; i++)
+        if (has_bits_left(market, i))
             return SHARES_BAD_MARK;
     return SHARES_OK;
 }
@@ -79,7 +99,15 @@ static uint8_t read_prices(Market *market, const uint8_t *prices, size_t length)
 
 static bool finds_easy(const Market *market, size_t agent, size_t chore)
 {
-    return market->marks[agent * market->chores + chore] == 'e';
+    return !is_set(market, agent, chore);
+}
+
+static bool finds_none_easy(const Market *market, size_t agent)
+{
+    for (size_t c = 0; c < market->chores; c++)
+        if (finds_easy(market, agent, c))
+            return false;
+    return true;
 }
 
 static uint32_t cost(const Market *market, size_t agent, size_t chore)
@@ -213,7 +241,7 @@ static void open_market(Market *market)
     bool likes_none[SHARES_MAX_AGENTS];
     size_t held[SHARES_MAX_AGENTS] = {0};
     for (size_t i = 0; i < market->agents; i++)
-        likes_none[i] = memchr(market->marks + i * market->chores, 'e', market->chores) == NULL;
+        likes_none[i] = finds_none_easy(market, i);
     for (size_t c = 0; c < market->chores; c++) {
         size_t i = 0;
         while (i < market->agents && !likes_none[i] && !finds_easy(market, i, c))
@@ -549,6 +577,20 @@ static uint8_t read_strands(Market *first, const uint8_t *first_sheet, size_t fi
     return SHARES_OK;
 }
 
+/* Adds marks after the first `count` of a row, where no bit is set so far. Bits
+ * of their last byte that are no marks are 0, and are not written. */
+static void add_marks(uint8_t *row, size_t count, const uint8_t *marks, size_t bytes)
+{
+    size_t shift = count % 8;
+    row += count / 8;
+    for (size_t k = 0; k < bytes; k++) {
+        uint8_t rest = (uint8_t)(marks[k] << (8 - shift));
+        row[k] |= (uint8_t)(marks[k] >> shift);
+        if (rest != 0)
+            row[k + 1] |= rest;
+    }
+}
+
 uint8_t plain_join(const uint8_t *first, size_t first_len,
                    const uint8_t *second, size_t second_len,
                    uint8_t *joined, size_t joined_len, size_t *written)
@@ -562,12 +604,14 @@ uint8_t plain_join(const uint8_t *first, size_t first_len,
         return SHARES_SHORT_LIST;
 
     memcpy(joined, first, SHARES_HEADER_BYTES);
-    joined[1] = (uint8_t)chores;
+    joined[1] = (uint8_t)(chores >> 8);
+    joined[2] = (uint8_t)(chores & 0xff);
     uint8_t *row = joined + SHARES_HEADER_BYTES;
+    memset(row, 0, one.agents * row_bytes(chores));
     for (size_t i = 0; i < one.agents; i++) {
-        memcpy(row, one.marks + i * one.chores, one.chores);
-        memcpy(row + one.chores, other.marks + i * other.chores, other.chores);
-        row += chores;
+        memcpy(row, one.marks + i * one.row_bytes, one.row_bytes);
+        add_marks(row, one.chores, other.marks + i * other.row_bytes, other.row_bytes);
+        row += row_bytes(chores);
     }
     *written = SHARES_SHEET_BYTES(one.agents, chores);
     return SHARES_OK;

@@ -1,9 +1,10 @@
 //! Random books, whole and damaged.
 
-use crate::random::{damaged, Random};
-use crate::shapes;
+use crate::damage::damaged;
+use crate::random::Random;
+use crate::{shapes, sizes};
 use reference::compose;
-use reference::limits::MAX_SHEETS;
+use reference::limits::{MAX_CHORES, MAX_SHEETS};
 
 /// 1 to 16 bodies, 16 often. Most are small sheets; some are refused.
 pub fn bodies(random: &mut Random) -> Vec<Vec<u8>> {
@@ -18,7 +19,7 @@ pub fn bodies(random: &mut Random) -> Vec<Vec<u8>> {
 
 /// `refused` is the chance of a damaged sheet, of which few are still sheets.
 fn body(random: &mut Random, refused: usize) -> Vec<u8> {
-    let (agents, chores) = (1 + random.below(4), random.below(8));
+    let (agents, chores) = (1 + random.below(4), sizes::chores(random, 17));
     let shape = shapes::any_shape(random);
     let sheet = shapes::sheet(random, shape, agents, chores);
     if !random.chance(refused) {
@@ -30,20 +31,27 @@ fn body(random: &mut Random, refused: usize) -> Vec<u8> {
             let length = random.below(9);
             random.bytes(length)
         }
-        _ => damaged(sheet, random),
+        _ => damaged(random, sheet),
     }
 }
 
-/// A book of up to 16 sheets that fill both long lists, or nearly.
+/// A book of 16 sheets, of up to 20 agents and 200 chores.
 pub fn large_book(random: &mut Random) -> Vec<u8> {
-    let sheets: Vec<Vec<u8>> = (0..MAX_SHEETS)
-        .map(|_| {
-            let agents = 1 + random.below(20);
-            let chores = if random.chance(70) { 200 } else { 180 };
-            let shape = shapes::any_shape(random);
-            shapes::sheet(random, shape, agents, chores)
-        })
-        .collect();
+    book_of(random, 20, |random| [200, 180][random.below(2)])
+}
+
+/// A book that fills both long lists, or nearly.
+pub fn full_book(random: &mut Random, full: bool) -> Vec<u8> {
+    let below = if full { 1 } else { 8 };
+    book_of(random, 3, |random| MAX_CHORES - random.below(below))
+}
+
+fn book_of(random: &mut Random, agents: usize, chores: impl Fn(&mut Random) -> usize) -> Vec<u8> {
+    let mut sheet = || {
+        let chores = chores(random);
+        shapes::sheet_of(random, agents, chores)
+    };
+    let sheets: Vec<Vec<u8>> = (0..MAX_SHEETS).map(|_| sheet()).collect();
     compose::book(&sheets)
 }
 

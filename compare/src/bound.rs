@@ -1,14 +1,15 @@
 //! The most moves of a share-out, by its numbers of agents and chores alone.
 
+use crate::header;
+
 /// For each round.
 fn round_moves(sheet: &[u8]) -> u64 {
-    let [agents, chores] = [sheet[0], sheet[1]].map(u64::from);
-    (agents - 1) * chores
+    ((header::agents(sheet) - 1) * header::chores(sheet)) as u64
 }
 
 /// In all: no run has more rounds than agents.
 pub fn most_moves(sheet: &[u8]) -> u64 {
-    u64::from(sheet[0]) * round_moves(sheet)
+    header::agents(sheet) as u64 * round_moves(sheet)
 }
 
 /// With so many cuts, and in all.

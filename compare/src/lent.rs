@@ -7,6 +7,9 @@ use reference::price_bytes::PRICE_BYTES;
 /// An odd number, so that a list of prices seldom starts at a multiple of four.
 const MARGIN: usize = 13;
 
+/// More than the prices of most books take.
+const NEW_BYTES: usize = 1_200;
+
 #[derive(Debug, Clone)]
 pub struct Lent<T> {
     before: Vec<T>,
@@ -57,6 +60,38 @@ impl<T: Clone + PartialEq> Lent<T> {
         self.now() == expected
             && self.now[..MARGIN] == self.before[..MARGIN]
             && self.now[end..] == self.before[end..]
+    }
+}
+
+/// A long list for each of two programs, with the same content. What a call
+/// leaves is there for the next one, so that it need not be made anew.
+#[derive(Debug)]
+pub struct Twins {
+    lists: [Vec<u8>; 2],
+}
+
+impl Twins {
+    /// Lists of up to so many bytes can be lent.
+    pub fn new(random: &mut Random, most: usize) -> Self {
+        let list = random.bytes(most + 2 * MARGIN);
+        Twins {
+            lists: [list.clone(), list],
+        }
+    }
+
+    /// The same part of either, where some bytes at the start are new.
+    pub fn lend(&mut self, random: &mut Random, length: usize) -> [&mut [u8]; 2] {
+        let start = random.bytes(length.min(NEW_BYTES));
+        self.lists.each_mut().map(|list| {
+            let part = &mut list[MARGIN..][..length];
+            part[..start.len()].copy_from_slice(&start);
+            part
+        })
+    }
+
+    /// Both hold the same, in the parts lent and beside them.
+    pub fn agree(&self) -> bool {
+        self.lists[0] == self.lists[1]
     }
 }
 

@@ -6,11 +6,14 @@
 pub mod books;
 pub mod bound;
 mod c;
+pub mod damage;
+pub mod header;
 pub mod lent;
 mod library;
 pub mod lists;
 pub mod random;
 pub mod shapes;
+pub mod sizes;
 pub mod strands;
 
 pub use library::{Checks, Library, Second, PLAIN, PROVED};
@@ -59,7 +62,8 @@ pub fn allocate_recorded(
     }
 }
 
-/// 0 or the refusal number; the agent's row is that part of the strand's sheet.
+/// 0 or the refusal number; the bytes of the agent's row are that part of the
+/// strand's sheet.
 pub fn show_marks(
     pair: &Pair,
     agent: usize,

@@ -2,21 +2,19 @@
 //! writes looked at.
 
 use crate::random::{self, damaged, Random};
-use crate::{shapes, Checks};
-use reference::limits::MIN_SCRATCH;
-use reference::{dominates, ListVerdict, PriceVerdict};
+use crate::{damage, header, shapes, Checks};
+use reference::sheet::Sheet;
+use reference::{dominates, plain, ListVerdict, PriceVerdict};
 
 /// The share-out's list and prices, by the second program.
 pub fn shared_out(sheet: &[u8]) -> (Vec<u8>, Vec<u32>) {
-    let chores = usize::from(sheet[1]);
-    let (mut owners, mut prices) = (vec![0; chores], vec![0; chores]);
-    reference::allocate(sheet, &mut owners, &mut prices, &mut [0; MIN_SCRATCH]);
-    (owners, prices)
+    let worked = plain::work(&Sheet::parse(sheet).expect("the sheet keeps the rules"));
+    (worked.owners, worked.prices)
 }
 
 /// A list from the share-out, with some owners changed: often even, often not wasteful.
 pub fn near_fair(sheet: &[u8], random: &mut Random) -> Vec<u8> {
-    let (agents, chores) = (usize::from(sheet[0]), usize::from(sheet[1]));
+    let (agents, chores) = (header::agents(sheet), header::chores(sheet));
     let (mut owners, _) = shared_out(sheet);
     for _ in 0..random.below(4) {
         if chores > 0 {
@@ -33,7 +31,7 @@ pub fn near_fair(sheet: &[u8], random: &mut Random) -> Vec<u8> {
 
 /// The share-out's list and prices, with an owner or a price changed: often accepted.
 pub fn near_accepted(sheet: &[u8], random: &mut Random) -> (Vec<u8>, Vec<u8>) {
-    let (agents, chores) = (usize::from(sheet[0]), usize::from(sheet[1]));
+    let (agents, chores) = (header::agents(sheet), header::chores(sheet));
     let (mut owners, mut prices) = shared_out(sheet);
     if chores > 0 && random.chance(60) {
         owners[random.below(chores)] = 1 + random.below(agents) as u8;
@@ -71,12 +69,11 @@ impl Given {
 
 /// Faults in the sheet, the list, the prices or what is lent; now and then none.
 pub fn damaged_given(random: &mut Random) -> Given {
-    let (agents, chores) = (1 + random.below(4), random.below(6));
-    let shape = shapes::any_shape(random);
-    let mut sheet = shapes::sheet(random, shape, agents, chores);
+    let mut sheet = shapes::tiny_sheet(random);
+    let (agents, chores) = (header::agents(&sheet), header::chores(&sheet));
     let mut owners = random::owners(random, agents, chores);
     if random.chance(60) {
-        sheet = damaged(sheet, random);
+        sheet = damage::damaged(random, sheet);
     }
     if random.chance(60) {
         owners = damaged(owners, random);
@@ -122,7 +119,7 @@ pub fn judged(
     let mut after = before.clone();
     let verdict = program.check_list(sheet, owners, &mut after[..lent]);
     if verdict == ListVerdict::Wasteful {
-        let chores = usize::from(sheet[1]);
+        let chores = header::chores(sheet);
         assert!(
             dominates(sheet, &after[..chores], owners),
             "the list shown does not dominate: {sheet:?} {owners:?} {:?}",

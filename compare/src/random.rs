@@ -60,7 +60,8 @@ pub fn owners(random: &mut Random, agents: usize, chores: usize) -> Vec<u8> {
         .collect()
 }
 
-/// Any bytes in place of some of the first ones, and sometimes another length.
+/// A list with any bytes in place of some of the first ones, and sometimes of
+/// another length.
 pub fn damaged(mut bytes: Vec<u8>, random: &mut Random) -> Vec<u8> {
     for _ in 0..1 + random.below(3) {
         if !bytes.is_empty() && random.chance(70) {

@@ -1,8 +1,10 @@
 //! Random sheets of all shapes.
 
 use crate::random::{weights, Random};
+use crate::sizes;
 use reference::compose;
 use reference::costs::Costs;
+use reference::limits::{MAX_AGENTS, MAX_CHORES};
 use reference::sheet::Sheet;
 
 /// What the rows of a sheet are like.
@@ -165,37 +167,60 @@ pub fn is_dear(sheet: &Sheet) -> bool {
     count >= 3 && 2 * count >= costs.chores
 }
 
-/// Up to 6 agents and 13 chores.
+/// Of any shape, with up to so many agents.
+pub fn sheet_of(random: &mut Random, agents: usize, chores: usize) -> Vec<u8> {
+    let agents = 1 + random.below(agents);
+    let shape = any_shape(random);
+    sheet(random, shape, agents, chores)
+}
+
+/// Few agents and few chores, so that there are few allocations to try.
+pub fn tiny_sheet(random: &mut Random) -> Vec<u8> {
+    let (agents, most) = [(2, 10), (4, 6), (4, 6)][random.below(3)];
+    let chores = sizes::chores(random, most);
+    sheet_of(random, agents, chores)
+}
+
+/// Up to 6 agents and 17 chores.
 pub fn small_sheet(random: &mut Random) -> Vec<u8> {
-    let (agents, chores) = (1 + random.below(6), random.below(14));
-    let shape = any_shape(random);
-    sheet(random, shape, agents, chores)
+    let chores = sizes::chores(random, 17);
+    sheet_of(random, 6, chores)
 }
 
-/// Up to 12 agents and 60 chores.
+/// Up to 12 agents and 65 chores.
 pub fn medium_sheet(random: &mut Random) -> Vec<u8> {
-    let (agents, chores) = (1 + random.below(12), random.below(61));
-    let shape = any_shape(random);
-    sheet(random, shape, agents, chores)
+    let chores = sizes::chores(random, 65);
+    sheet_of(random, 12, chores)
 }
 
-/// Any size up to the limits, often at them.
+/// Up to 32 agents and 200 chores, often as many.
 pub fn large_sheet(random: &mut Random) -> Vec<u8> {
-    let agents = if random.chance(30) {
-        32
-    } else {
-        1 + random.below(32)
-    };
     let chores = if random.chance(30) {
         200
     } else {
-        random.below(201)
+        sizes::chores(random, 200)
     };
-    let shape = any_shape(random);
-    sheet(random, shape, agents, chores)
+    if random.chance(30) {
+        let shape = any_shape(random);
+        return sheet(random, shape, MAX_AGENTS, chores);
+    }
+    sheet_of(random, MAX_AGENTS, chores)
 }
 
-/// Small sheets mostly, some of any size.
+/// Up to 4 agents and more than 200 chores, mostly as many as there may be or
+/// nearly.
+pub fn long_sheet(random: &mut Random) -> Vec<u8> {
+    let chores = sizes::many_chores(random);
+    sheet_of(random, 4, chores)
+}
+
+/// As many agents and chores as there may be.
+pub fn largest_sheet(random: &mut Random) -> Vec<u8> {
+    let shape = any_shape(random);
+    sheet(random, shape, MAX_AGENTS, MAX_CHORES)
+}
+
+/// Small sheets mostly, some of up to 200 chores.
 pub fn any_sheet(random: &mut Random) -> Vec<u8> {
     match random.below(20) {
         0 | 1 => large_sheet(random),

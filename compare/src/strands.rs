@@ -1,11 +1,12 @@
 //! Random strands to be joined, and a library's join held to the second
 //! program's.
 
+use crate::damage::damaged;
 use crate::lent::Lent;
-use crate::random::{damaged, weights, Random};
-use crate::{shapes, Library};
+use crate::random::{weights, Random};
+use crate::{header, shapes, sizes, Library};
 use reference::limits::{MAX_AGENTS, MAX_CHORES, MAX_WEIGHT};
-use reference::sheet::HEADER_BYTES;
+use reference::sheet::{row_bytes, HEADER_BYTES};
 use reference::{compose, join, Join};
 
 /// The sheets of two strands, whether or not they break a rule.
@@ -18,23 +19,18 @@ pub struct Pair {
 impl Pair {
     /// The agents of the first strand, by its header.
     pub fn agents(&self) -> usize {
-        entry(&self.first, 0)
+        header::agents(&self.first)
     }
 
     /// The chores of each strand, by its header.
     pub fn chores(&self) -> [usize; 2] {
-        [&self.first, &self.second].map(|sheet| entry(sheet, 1))
+        [&self.first, &self.second].map(|sheet| header::chores(sheet))
     }
 
     /// The bytes of the joined sheet, if there is one.
     pub fn bytes(&self) -> usize {
-        HEADER_BYTES + self.agents() * self.chores().iter().sum::<usize>()
+        HEADER_BYTES + self.agents() * row_bytes(self.chores().iter().sum())
     }
-}
-
-/// 0 where the header is cut short.
-fn entry(sheet: &[u8], at: usize) -> usize {
-    sheet.get(at).copied().map_or(0, usize::from)
 }
 
 /// What two strands must have in common.
@@ -65,7 +61,7 @@ pub fn any_pair(random: &mut Random) -> Pair {
     };
     for sheet in [&mut pair.first, &mut pair.second] {
         if random.chance(22) {
-            harm(random, sheet);
+            *sheet = damaged(random, sheet.clone());
         }
     }
     pair
@@ -74,14 +70,18 @@ pub fn any_pair(random: &mut Random) -> Pair {
 /// Agents, and the chores of each strand: few mostly; some as many as two
 /// strands may have together, one or two more, or any number.
 fn sizes(random: &mut Random) -> (usize, [usize; 2]) {
-    match random.below(20) {
-        0 | 1 => {
-            let one = random.below(MAX_CHORES + 1);
+    match random.below(200) {
+        0..=15 => {
+            let one = sizes::chores(random, MAX_CHORES);
             let other = MAX_CHORES + random.below(3) - one;
-            (any_agents(random), [one, other])
+            (few_agents(random), [one, other])
         }
-        2 => {
-            let chores = [(); 2].map(|_| random.below(MAX_CHORES + 1));
+        16..=18 => {
+            let chores = [(); 2].map(|_| sizes::chores(random, MAX_CHORES));
+            (any_agents(random), chores)
+        }
+        19..=30 => {
+            let chores = [(); 2].map(|_| sizes::chores(random, 200));
             (any_agents(random), chores)
         }
         _ => {
@@ -93,11 +93,15 @@ fn sizes(random: &mut Random) -> (usize, [usize; 2]) {
 
 /// None now and then, and one more than a sheet may have.
 fn few_chores(random: &mut Random) -> usize {
-    match random.below(24) {
+    match random.below(72) {
         0 => MAX_CHORES + 1,
-        1 | 2 => 0,
-        _ => random.below(14),
+        1..=9 => 0,
+        _ => sizes::chores(random, 25),
     }
+}
+
+fn few_agents(random: &mut Random) -> usize {
+    1 + random.below(3)
 }
 
 fn any_agents(random: &mut Random) -> usize {
@@ -124,22 +128,6 @@ fn sheet(random: &mut Random, terms: Terms, chores: usize) -> Vec<u8> {
     let shape = shapes::any_shape(random);
     let rows = shapes::rows(random, shape, terms.agents, chores);
     compose::sheet(terms.easy, terms.difficult, &rows)
-}
-
-/// Damaged near the start, cut short anywhere, longer, or with any byte anywhere.
-fn harm(random: &mut Random, sheet: &mut Vec<u8>) {
-    match random.below(5) {
-        0 => sheet.truncate(random.below(sheet.len())),
-        1 => {
-            let length = 1 + random.below(9);
-            sheet.extend(random.bytes(length));
-        }
-        2 => {
-            let at = random.below(sheet.len());
-            sheet[at] = random.byte();
-        }
-        _ => *sheet = damaged(sheet.clone(), random),
-    }
 }
 
 /// For the joined sheet: exact, a byte short, shorter, longer.

@@ -3,10 +3,10 @@
 //! moves than its sheets may.
 
 use compare::bound::{assert_few, most_moves};
-use compare::lent::{assert_all_hold, Lent};
+use compare::lent::{Lengths, Lent, Twins};
 use compare::random::Random;
-use compare::{books, shapes, BookAnswers, BOOK_SHEETS};
-use reference::limits::{BOOK_ENTRIES, MAX_BOOK_BYTES, MIN_SCRATCH};
+use compare::{books, shapes, sizes, BookAnswers, BOOK_SHEETS};
+use reference::limits::{BOOK_ENTRIES, MAX_BOOK_BYTES, MAX_CHORES, MIN_SCRATCH};
 use reference::price_bytes::PRICE_BYTES;
 use reference::{compose, lookup, plain, price_bytes, BookShareOut, SheetShareOut};
 
@@ -14,11 +14,12 @@ const WHOLE: usize = 40_000;
 const DAMAGED: usize = 40_000;
 const SHORT: usize = 19_700;
 const LARGE: usize = 300;
-
-/// Lengths of the owners, the bytes of prices and the scratch.
-type Lengths = [usize; 3];
+const FULL: usize = 9;
 
 const LEAST: Lengths = [BOOK_ENTRIES, PRICE_BYTES * BOOK_ENTRIES, MIN_SCRATCH];
+
+/// What is lent is longer by up to so many bytes.
+const MOST_MORE: usize = 40;
 
 /// The five lists of answers.
 struct Answers {
@@ -89,26 +90,45 @@ impl Answers {
     }
 }
 
+/// The long lists of a test, which each of its books is lent.
+struct Lists {
+    owners: Twins,
+    prices: Twins,
+}
+
+impl Lists {
+    fn new(random: &mut Random) -> Self {
+        let [owners, prices, _] = LEAST.map(|length| Twins::new(random, length + MOST_MORE));
+        Lists { owners, prices }
+    }
+}
+
 /// One book through both programs, with every byte that was lent compared.
-fn compared(random: &mut Random, book: &[u8], lengths: Lengths) -> BookShareOut {
-    let mut lent = lengths.map(|length| Lent::bytes(random, length));
-    let [mut owners, mut prices, mut scratch] =
-        lent.each_ref().map(|lent| lent.at_first().to_vec());
+fn compared(random: &mut Random, lists: &mut Lists, book: &[u8], lengths: Lengths) -> BookShareOut {
+    let [expected_owners, owners] = lists.owners.lend(random, lengths[0]);
+    let [expected_prices, prices] = lists.prices.lend(random, lengths[1]);
+    let mut scratch = Lent::bytes(random, lengths[2]);
+    let mut zeros = scratch.at_first().to_vec();
     let work = plain::work;
-    let answer = price_bytes::allocate_book(work, book, &mut owners, &mut prices, &mut scratch);
+    let answer =
+        price_bytes::allocate_book(work, book, expected_owners, expected_prices, &mut zeros);
     let expected = match answer {
         BookShareOut::Refused(number) => number,
         BookShareOut::Shared { .. } => 0,
     };
     let mut answers = Answers::new(random);
-    let [of_owners, of_prices, of_scratch] = lent.each_mut().map(Lent::part);
-    let number = compare::allocate_book(book, of_owners, of_prices, of_scratch, answers.lend());
+    let number = compare::allocate_book(book, owners, prices, scratch.part(), answers.lend());
     assert_eq!(number, expected, "number of {book:?}, lent {lengths:?}");
     assert!(
         answers.tell(&answer),
         "answers of {book:?}, lent {lengths:?}"
     );
-    assert_all_hold(&lent, [owners, prices, scratch], book);
+    assert!(lists.owners.agree(), "owners of {book:?}, lent {lengths:?}");
+    assert!(lists.prices.agree(), "prices of {book:?}, lent {lengths:?}");
+    assert!(
+        scratch.holds(&zeros),
+        "scratch of {book:?}, lent {lengths:?}"
+    );
     assert_few_in_all(book, &answer);
     answer
 }
@@ -150,33 +170,47 @@ fn looked_up(random: &mut Random, book: &[u8]) {
 }
 
 fn enough(random: &mut Random) -> Lengths {
-    LEAST.map(|length| length + [0, 0, 1, 5, 40][random.below(5)])
+    LEAST.map(|length| length + [0, 0, 1, 5, MOST_MORE][random.below(5)])
+}
+
+/// Adds the sheets of a book that were not refused.
+fn add_sizes(sizes: &mut sizes::Seen, book: &[u8], sheets: &[SheetShareOut]) {
+    for (sheet, number) in sheets.iter().zip(1..) {
+        if let SheetShareOut::Shared { .. } = sheet {
+            sizes.add(lookup(book, number).expect("a sheet of the book"));
+        }
+    }
 }
 
 #[test]
 fn whole_books() {
     let mut random = Random::new(21);
+    let mut lists = Lists::new(&mut random);
+    let mut sizes = sizes::Seen::default();
     let (mut full, mut mixed) = (0, 0);
     for _ in 0..WHOLE {
         let book = compose::book(&books::bodies(&mut random));
         looked_up(&mut random, &book);
         let lengths = enough(&mut random);
-        match compared(&mut random, &book, lengths) {
+        match compared(&mut random, &mut lists, &book, lengths) {
             BookShareOut::Refused(number) => panic!("refused {number}: {book:?}"),
             BookShareOut::Shared { sheets, .. } => {
                 let refused = |sheet: &SheetShareOut| matches!(sheet, SheetShareOut::Refused(_));
                 let count = sheets.iter().filter(|sheet| refused(sheet)).count();
                 full += usize::from(sheets.len() == BOOK_SHEETS);
                 mixed += usize::from(count > 0 && count < sheets.len());
+                add_sizes(&mut sizes, &book, &sheets);
             }
         }
     }
+    sizes.assert_all(0..=17, WHOLE / 100);
     assert!(full > WHOLE / 10 && mixed > WHOLE / 10, "{full} {mixed}");
 }
 
 #[test]
 fn damaged_books() {
     let mut random = Random::new(22);
+    let mut lists = Lists::new(&mut random);
     let mut refused = 0;
     for _ in 0..DAMAGED {
         let book = books::damaged_book(&mut random);
@@ -186,7 +220,7 @@ fn damaged_books() {
         if random.chance(10) {
             lengths[random.below(3)] = 0;
         }
-        let answer = compared(&mut random, &book, lengths);
+        let answer = compared(&mut random, &mut lists, &book, lengths);
         refused += usize::from(answer == BookShareOut::Refused(9));
     }
     let shared = DAMAGED - refused;
@@ -196,6 +230,7 @@ fn damaged_books() {
 #[test]
 fn short_lists() {
     let mut random = Random::new(23);
+    let mut lists = Lists::new(&mut random);
     let mut refused = 0;
     for _ in 0..SHORT {
         let book = compose::book(&books::bodies(&mut random));
@@ -206,7 +241,7 @@ fn short_lists() {
             1 => LEAST[short] - 1,
             _ => LEAST[short] + 2 - random.below(6),
         };
-        let answer = compared(&mut random, &book, lengths);
+        let answer = compared(&mut random, &mut lists, &book, lengths);
         refused += usize::from(answer == BookShareOut::Refused(8));
     }
     assert!(refused > SHORT / 2 && refused < SHORT, "{refused}");
@@ -215,18 +250,38 @@ fn short_lists() {
 #[test]
 fn large_books() {
     let mut random = Random::new(24);
+    let mut lists = Lists::new(&mut random);
     for _ in 0..LARGE {
         let book = books::large_book(&mut random);
         looked_up(&mut random, &book);
         let lengths = enough(&mut random);
-        compared(&mut random, &book, lengths);
+        compared(&mut random, &mut lists, &book, lengths);
     }
+}
+
+/// Sixteen sheets of 4,000 chores, which take every entry, and of a few less.
+#[test]
+fn full_books() {
+    let mut random = Random::new(26);
+    let mut lists = Lists::new(&mut random);
+    let mut sizes = sizes::Seen::default();
+    for round in 0..FULL {
+        let book = books::full_book(&mut random, round % 3 == 0);
+        let BookShareOut::Shared { sheets, .. } = compared(&mut random, &mut lists, &book, LEAST)
+        else {
+            panic!("refused: {book:?}")
+        };
+        add_sizes(&mut sizes, &book, &sheets);
+    }
+    sizes.assert_all(sizes::LONGEST, 1);
+    sizes.assert_all([MAX_CHORES], BOOK_SHEETS * FULL / 3);
 }
 
 /// Whole but for their length or their count of sheets.
 #[test]
 fn books_at_the_limits() {
     let mut random = Random::new(25);
+    let mut lists = Lists::new(&mut random);
     let mut all = vec![random.bytes(2 * MAX_BOOK_BYTES)];
     for length in [MAX_BOOK_BYTES - 1, MAX_BOOK_BYTES, MAX_BOOK_BYTES + 1] {
         all.push(compose::book(&[random.bytes(length - 5)]));
@@ -242,6 +297,6 @@ fn books_at_the_limits() {
     }
     for book in all {
         looked_up(&mut random, &book);
-        compared(&mut random, &book, LEAST);
+        compared(&mut random, &mut lists, &book, LEAST);
     }
 }

@@ -2,12 +2,14 @@
 
 use compare::lists::{bytes, damaged_given, judged, near_accepted, near_fair};
 use compare::random::{self, Random};
-use compare::{shapes, Checks, Second, PROVED};
+use compare::{header, shapes, sizes, Checks, Second, PROVED};
 use reference::limits::{MAX_AGENTS, MAX_CHORES, MAX_PRICE};
 use reference::{check_list, compose, is_small_enough, price_bytes, ListVerdict, PriceVerdict};
 
 const SMALL: usize = 20_000;
 const LARGE: usize = 2_000;
+const LONG: usize = 400;
+const LARGEST: usize = 10;
 
 /// The second program's verdict, by its check for sheets of any size. Where there
 /// are few enough allocations to try, its other check says the same.
@@ -40,44 +42,64 @@ fn small_lists_get_the_same_verdict() {
     let mut random = Random::new(1);
     let mut seen = [0usize; 3];
     for _ in 0..SMALL {
-        let (agents, chores) = (1 + random.below(4), random.below(7));
-        let shape = shapes::any_shape(&mut random);
-        let sheet = shapes::sheet(&mut random, shape, agents, chores);
+        let sheet = shapes::tiny_sheet(&mut random);
         assert!(is_small_enough(&sheet));
         let owners = if random.chance(50) {
             near_fair(&sheet, &mut random)
         } else {
-            random::owners(&mut random, agents, chores)
+            random::owners(&mut random, header::agents(&sheet), header::chores(&sheet))
         };
         seen[kind(&sheet, &owners, &mut random)] += 1;
     }
     assert!(seen.iter().all(|&count| count > SMALL / 50), "{seen:?}");
 }
 
-/// Compares lists near the share-out's. Hands back how many are of each kind on
-/// sheets with too many allocations to try them all.
-fn kinds_of_large(seed: u64, make: fn(&mut Random) -> Vec<u8>) -> [usize; 3] {
+/// Compares lists near the share-out's, on sheets of these numbers of chores.
+/// Hands back how many are of each kind on sheets with too many allocations to
+/// try them all.
+fn kinds_of_large(
+    seed: u64,
+    count: usize,
+    make: fn(&mut Random) -> Vec<u8>,
+    numbers: impl IntoIterator<Item = usize>,
+) -> [usize; 3] {
     let mut random = Random::new(seed);
-    let mut seen = [0; 3];
-    for _ in 0..LARGE {
+    let (mut seen, mut sizes) = ([0; 3], sizes::Seen::default());
+    for _ in 0..count {
         let sheet = make(&mut random);
         let owners = near_fair(&sheet, &mut random);
         let kind = kind(&sheet, &owners, &mut random);
         seen[kind] += usize::from(!is_small_enough(&sheet));
+        sizes.add(&sheet);
     }
+    println!("{seen:?}");
+    sizes.assert_all(numbers, 1);
     seen
 }
 
 #[test]
 fn lists_of_any_size_get_the_same_verdict() {
-    let seen = kinds_of_large(2, shapes::any_sheet);
+    let seen = kinds_of_large(2, LARGE, shapes::any_sheet, 0..=17);
     assert!(seen.iter().all(|&count| count > LARGE / 40), "{seen:?}");
 }
 
 #[test]
 fn large_lists_get_the_same_verdict() {
-    let seen = kinds_of_large(6, shapes::large_sheet);
+    let numbers = sizes::around_bytes(200);
+    let seen = kinds_of_large(6, LARGE, shapes::large_sheet, numbers);
     assert!(seen.iter().all(|&count| count > LARGE / 20), "{seen:?}");
+}
+
+#[test]
+fn long_lists_get_the_same_verdict() {
+    let seen = kinds_of_large(7, LONG, shapes::long_sheet, sizes::LONGEST);
+    assert!(seen.iter().all(|&count| count > LONG / 20), "{seen:?}");
+}
+
+#[test]
+fn largest_lists_get_the_same_verdict() {
+    let seen = kinds_of_large(8, LARGEST, shapes::largest_sheet, [MAX_CHORES]);
+    assert_eq!(seen.iter().sum::<usize>(), LARGEST);
 }
 
 #[test]
@@ -104,17 +126,39 @@ fn compare_prices(sheet: &[u8], owners: &[u8], prices: &[u8]) -> PriceVerdict {
     verdict
 }
 
+/// How many lists and prices, near the share-out's, are accepted, how many are
+/// not, and the highest chore that is off its price.
+fn price_verdicts(seed: u64, count: usize, make: fn(&mut Random) -> Vec<u8>) -> [usize; 3] {
+    let mut random = Random::new(seed);
+    let mut seen = [0; 3];
+    for _ in 0..count {
+        let sheet = make(&mut random);
+        let (owners, prices) = near_accepted(&sheet, &mut random);
+        match compare_prices(&sheet, &owners, &prices) {
+            PriceVerdict::Accepted => seen[0] += 1,
+            PriceVerdict::OffPrice(chore) => {
+                seen[1] += 1;
+                seen[2] = chore.max(seen[2]);
+            }
+            _ => seen[1] += 1,
+        }
+    }
+    println!("{seen:?}");
+    seen
+}
+
 #[test]
 fn price_lists_get_the_same_verdict() {
-    let mut random = Random::new(4);
-    let mut accepted = 0;
-    for _ in 0..SMALL {
-        let sheet = shapes::any_sheet(&mut random);
-        let (owners, prices) = near_accepted(&sheet, &mut random);
-        let verdict = compare_prices(&sheet, &owners, &prices);
-        accepted += usize::from(verdict == PriceVerdict::Accepted);
-    }
-    assert!(accepted > SMALL / 20 && accepted < SMALL, "{accepted}");
+    let [accepted, not, _] = price_verdicts(4, SMALL, shapes::any_sheet);
+    assert!(accepted > SMALL / 20 && not > SMALL / 20);
+}
+
+/// Chores that take both high bytes of a verdict.
+#[test]
+fn long_price_lists_get_the_same_verdict() {
+    let [accepted, not, chore] = price_verdicts(9, LONG, shapes::long_sheet);
+    assert!(accepted > LONG / 20 && not > LONG / 20);
+    assert!(chore > MAX_CHORES / 2, "{chore}");
 }
 
 /// Sums at their greatest: every price at its limit, and few who hold them.
@@ -122,8 +166,7 @@ fn price_lists_get_the_same_verdict() {
 fn greatest_prices_get_the_same_verdict() {
     let mut random = Random::new(5);
     let prices = bytes(vec![MAX_PRICE; MAX_CHORES]);
-    for _ in 0..LARGE {
-        let agents = 1 + random.below(MAX_AGENTS);
+    for agents in 1..=MAX_AGENTS {
         let sheet = compose::sheet(999, 1000, &vec!["e".repeat(MAX_CHORES); agents]);
         let holders = 1 + random.below(agents);
         let owners = random::owners(&mut random, holders, MAX_CHORES);

@@ -1,16 +1,21 @@
 //! The plain C program against the proved library: every answer, and every byte that was lent. Only the dominating lists that they show
 //! may differ. The join is held to the second program's, as the proved one is elsewhere.
 
+use compare::damage::damaged;
 use compare::lent::{assert_all_hold, enough, short, Lengths, Lent};
 use compare::lists::{damaged_given, judged, near_accepted, near_fair};
-use compare::random::{self, damaged, Random};
+use compare::random::{self, Random};
 use compare::shapes::{self, Shape};
 use compare::strands::{any_pair, joined, lent_length};
-use compare::{Checks, Library, PLAIN, PROVED};
+use compare::{header, sizes, Checks, Library, PLAIN, PROVED};
+use reference::limits::MAX_CHORES;
+use reference::sheet::Sheet;
 use reference::{ListVerdict, PriceVerdict};
 
 const SHEETS: usize = 10_000;
-const LARGEST: usize = 2_000;
+const WIDE: usize = 2_000;
+const LONG: usize = 100;
+const LARGEST: usize = 4;
 const DAMAGED: usize = 20_000;
 const LISTS: usize = 10_000;
 
@@ -35,24 +40,46 @@ fn shared_out(random: &mut Random, sheet: &[u8], lengths: Lengths) -> (u8, u64, 
     got
 }
 
-/// The most moves and cuts of any sheet.
-fn shared_out_all(seed: u64, count: usize, sheet: fn(&mut Random) -> Vec<u8>) -> (u64, u8) {
+/// The most moves and cuts of any sheet. Sheets of each of these numbers of
+/// chores are among them.
+fn shared_out_all(
+    seed: u64,
+    count: usize,
+    sheet: fn(&mut Random) -> Vec<u8>,
+    numbers: impl IntoIterator<Item = usize>,
+) -> (u64, u8) {
     let mut random = Random::new(seed);
     let mut most = (0, 0);
+    let mut sizes = sizes::Seen::default();
     for _ in 0..count {
         let sheet = sheet(&mut random);
-        let lengths = enough(&mut random, usize::from(sheet[1]));
+        let lengths = enough(&mut random, header::chores(&sheet));
         let (number, moves, cuts) = shared_out(&mut random, &sheet, lengths);
         assert_eq!(number, 0, "{sheet:?}");
         most = (moves.max(most.0), cuts.max(most.1));
+        sizes.add(&sheet);
     }
+    sizes.assert_all(numbers, 1);
     most
 }
 
 #[test]
 fn sheets_of_any_size() {
-    let (moves, cuts) = shared_out_all(41, SHEETS, shapes::any_sheet);
+    let (moves, cuts) = shared_out_all(41, SHEETS, shapes::any_sheet, 0..=65);
     assert!(moves > 100 && cuts > 4, "{moves} {cuts}");
+}
+
+#[test]
+fn long_sheets() {
+    let (moves, _) = shared_out_all(49, LONG, shapes::long_sheet, sizes::LONGEST);
+    assert!(moves > 2_000, "{moves}");
+}
+
+#[test]
+fn largest_sheets() {
+    let largest = shapes::largest_sheet;
+    let (moves, _) = shared_out_all(50, LARGEST, largest, [MAX_CHORES]);
+    assert!(moves > 1_000, "{moves}");
 }
 
 #[test]
@@ -61,7 +88,7 @@ fn sheets_with_many_cuts() {
         let agents = 1 + random.below(32);
         shapes::sheet(random, Shape::Ladder, agents, 200)
     };
-    let (_, cuts) = shared_out_all(42, LARGEST, ladder);
+    let (_, cuts) = shared_out_all(42, WIDE, ladder, [200]);
     assert!(cuts > 10, "{cuts}");
 }
 
@@ -72,7 +99,7 @@ fn sheets_for_few_agents() {
         let shape = shapes::any_shape(random);
         shapes::sheet(random, shape, agents, 200)
     };
-    let (moves, _) = shared_out_all(43, LARGEST, few);
+    let (moves, _) = shared_out_all(43, WIDE, few, [200]);
     assert!(moves > 100, "{moves}");
 }
 
@@ -83,9 +110,9 @@ fn damaged_sheets_and_short_lists() {
     for _ in 0..DAMAGED {
         let mut sheet = shapes::small_sheet(&mut random);
         if random.chance(70) {
-            sheet = damaged(sheet, &mut random);
+            sheet = damaged(&mut random, sheet);
         }
-        let chores = sheet.get(1).copied().map_or(0, usize::from);
+        let chores = Sheet::parse(&sheet).map_or(0, |sheet| sheet.chores);
         let lengths = short(&mut random, chores);
         let (number, ..) = shared_out(&mut random, &sheet, lengths);
         numbers[usize::from(number)] += 1;
@@ -95,13 +122,22 @@ fn damaged_sheets_and_short_lists() {
     }
 }
 
+/// Small and large sheets, and now and then a long one.
+fn sheet_to_check(random: &mut Random) -> Vec<u8> {
+    match random.below(100) {
+        0 => shapes::long_sheet(random),
+        _ => shapes::any_sheet(random),
+    }
+}
+
 #[test]
 fn list_checks() {
     let mut random = Random::new(45);
     let mut seen = [0; 3];
+    let mut sizes = sizes::Seen::default();
     for _ in 0..LISTS {
-        let sheet = shapes::any_sheet(&mut random);
-        let (agents, chores) = (usize::from(sheet[0]), usize::from(sheet[1]));
+        let sheet = sheet_to_check(&mut random);
+        let (agents, chores) = (header::agents(&sheet), header::chores(&sheet));
         let owners = if random.chance(80) {
             near_fair(&sheet, &mut random)
         } else {
@@ -117,16 +153,19 @@ fn list_checks() {
             ListVerdict::Wasteful => seen[2] += 1,
             other => panic!("{other:?}"),
         }
+        sizes.add(&sheet);
     }
     assert!(seen.iter().all(|&count| count > LISTS / 20), "{seen:?}");
+    sizes.assert_all(sizes::around_bytes(65).chain(sizes::LONGEST), 1);
 }
 
 #[test]
 fn price_checks() {
     let mut random = Random::new(46);
     let mut seen = [0; 3];
+    let mut sizes = sizes::Seen::default();
     for _ in 0..LISTS {
-        let sheet = shapes::any_sheet(&mut random);
+        let sheet = sheet_to_check(&mut random);
         let (owners, prices) = near_accepted(&sheet, &mut random);
         let [proved, plain] =
             [&PROVED, &PLAIN].map(|library| library.check_prices(&sheet, &owners, &prices));
@@ -137,8 +176,10 @@ fn price_checks() {
             PriceVerdict::PriceEnvy(..) => seen[2] += 1,
             PriceVerdict::Refused(number) => panic!("refused {number}"),
         }
+        sizes.add(&sheet);
     }
     assert!(seen.iter().all(|&count| count > LISTS / 50), "{seen:?}");
+    sizes.assert_all(sizes::around_bytes(65).chain(sizes::LONGEST), 1);
 }
 
 #[test]

@@ -3,14 +3,17 @@
 //! without a record.
 
 use compare::bound::most_moves;
+use compare::damage::damaged;
 use compare::lent::{assert_all_hold, enough, short, Lengths, Lent};
-use compare::random::{damaged, Random};
-use compare::{allocate_recorded, shapes, PROVED};
+use compare::random::Random;
+use compare::{allocate_recorded, header, shapes, sizes, PROVED};
+use reference::limits::MAX_CHORES;
 use reference::record::{self, Recorded, MOVE_BYTES};
 use reference::sheet::Sheet;
 use reference::{price_bytes, refusal, ShareOut};
 
 const SHEETS: usize = 100_000;
+const LONG: usize = 32;
 const FAULTY: usize = 100_000;
 
 /// The moves and the cuts, and before them the refusal number or 0.
@@ -74,20 +77,23 @@ fn assert_same_without(sheet: &[u8], lent: &[Lent<u8>; 4], held: Counts, got: To
     }
 }
 
-/// Exact, a byte short, longer, none, and room for the most moves, or for 500.
+/// Exact, a byte short, longer, none, and room for the most moves that are
+/// made room for.
 fn record_lengths(random: &mut Random, exact: usize, most: u64) -> [usize; 5] {
     let longer = exact + 1 + random.below(3 * MOVE_BYTES);
-    let room = MOVE_BYTES * most.min(500) as usize;
+    let room = MOVE_BYTES * most as usize;
     [exact, exact.saturating_sub(1), longer, 0, room]
 }
 
 /// How many sheets have many chores that nobody likes, how many took a move, the
-/// most moves and the last round of any, and the moves of step 2a of all.
+/// most moves, the highest chore and the last round of any, and the moves of step
+/// 2a of all.
 #[derive(Debug, Default)]
 struct Seen {
     dear: usize,
     moved: usize,
     moves: usize,
+    chore: usize,
     round: u8,
     of_2a: usize,
 }
@@ -98,35 +104,67 @@ impl Seen {
         self.moved += usize::from(!record.is_empty());
         self.moves = self.moves.max(record.len() / MOVE_BYTES);
         for entry in record.chunks_exact(MOVE_BYTES) {
+            let chore = 256 * usize::from(entry[0]) + usize::from(entry[1]);
+            self.chore = self.chore.max(chore);
             self.round = self.round.max(entry[4]);
             self.of_2a += usize::from(entry[5] == 1);
         }
     }
 }
 
-#[test]
-fn records_of_every_length() {
-    let mut random = Random::new(51);
-    let mut seen = Seen::default();
-    for _ in 0..SHEETS {
-        let sheet = shapes::any_sheet(&mut random);
+/// Sheets of these numbers of chores, each with records of every length, up to
+/// one with room for `most` moves.
+fn compare_all(
+    seed: u64,
+    count: usize,
+    sheet: fn(&mut Random) -> Vec<u8>,
+    numbers: impl IntoIterator<Item = usize>,
+    most: u64,
+) -> Seen {
+    let mut random = Random::new(seed);
+    let (mut seen, mut sizes) = (Seen::default(), sizes::Seen::default());
+    for _ in 0..count {
+        let sheet = sheet(&mut random);
         let parsed = Sheet::parse(&sheet).expect("the sheet keeps the rules");
         let recorded = record::work(&parsed);
-        let exact = recorded.record.len();
-        for length in record_lengths(&mut random, exact, most_moves(&sheet)) {
-            let work = |_: &Sheet| recorded.clone();
-            let lengths = enough(&mut random, usize::from(sheet[1]));
-            let number = compared(&mut random, work, &sheet, lengths, length);
-            let fits = if length < exact { refusal::RECORD } else { 0 };
-            assert_eq!(number, fits, "{sheet:?}, a record of {length}");
-        }
+        let most = most_moves(&sheet).min(most);
+        compare_lengths(&mut random, &sheet, &recorded, most);
         seen.add(&parsed, &recorded.record);
+        sizes.add(&sheet);
     }
     println!("{seen:?}");
-    assert!(seen.dear > SHEETS / 3, "{seen:?}");
+    assert!(seen.dear > count / 3, "{seen:?}");
+    sizes.assert_all(numbers, 1);
+    seen
+}
+
+fn compare_lengths(random: &mut Random, sheet: &[u8], recorded: &Recorded, most: u64) {
+    let exact = recorded.record.len();
+    for length in record_lengths(random, exact, most) {
+        let work = |_: &Sheet| recorded.clone();
+        let lengths = enough(random, header::chores(sheet));
+        let number = compared(random, work, sheet, lengths, length);
+        let fits = if length < exact { refusal::RECORD } else { 0 };
+        assert_eq!(number, fits, "{sheet:?}, a record of {length}");
+    }
+}
+
+#[test]
+fn records_of_every_length() {
+    let seen = compare_all(51, SHEETS, shapes::any_sheet, sizes::around_bytes(200), 500);
     assert!(seen.moved > SHEETS / 2 && seen.moved < SHEETS, "{seen:?}");
     assert!(seen.moves > 150 && seen.round > 8, "{seen:?}");
     assert!(seen.of_2a > 1_000, "{seen:?}");
+}
+
+/// Records of chores that take both bytes of their number.
+#[test]
+fn records_of_long_sheets() {
+    let seen = compare_all(53, LONG, shapes::long_sheet, sizes::LONGEST, 20_000);
+    assert!(
+        seen.moves > 1_000 && seen.chore > MAX_CHORES / 2,
+        "{seen:?}"
+    );
 }
 
 /// Long enough mostly; one list short, or any lengths.
@@ -146,13 +184,13 @@ fn faults_one_and_several() {
     for _ in 0..FAULTY {
         let mut sheet = shapes::small_sheet(&mut random);
         if random.chance(50) {
-            sheet = damaged(sheet, &mut random);
+            sheet = damaged(&mut random, sheet);
         }
-        let chores = sheet.get(1).copied().map_or(0, usize::from);
-        let lengths = some_lengths(&mut random, chores);
-        let (exact, most) = Sheet::parse(&sheet).map_or((0, 0), |parsed| {
-            (record::work(&parsed).record.len(), most_moves(&sheet))
+        let (chores, exact, most) = Sheet::parse(&sheet).map_or((0, 0, 0), |parsed| {
+            let exact = record::work(&parsed).record.len();
+            (parsed.chores, exact, most_moves(&sheet))
         });
+        let lengths = some_lengths(&mut random, chores);
         let length = record_lengths(&mut random, exact, most)[random.below(5)];
         let number = compared(&mut random, record::work, &sheet, lengths, length);
         numbers[usize::from(number)] += 1;

@@ -2,19 +2,23 @@
 //! all lent memory. No share-out takes more moves than it may.
 
 use compare::bound::{assert_few, parts};
+use compare::damage::{harm, one_or_two};
 use compare::lent::{assert_all_hold, enough, short, Lengths, Lent};
-use compare::random::{damaged, Random};
+use compare::random::Random;
 use compare::shapes::{self, Shape};
-use compare::PROVED;
+use compare::{header, sizes, PROVED};
+use reference::limits::MAX_CHORES;
 use reference::share_out::Worked;
-use reference::sheet::Sheet;
+use reference::sheet::{row_bytes, Sheet, HEADER_BYTES};
 use reference::{plain, price_bytes, share_out, ShareOut};
 
 const SMALL: usize = 50_000;
 const MEDIUM: usize = 38_000;
 const LARGE: usize = 9_000;
-const LARGEST: usize = 3_000;
-const DAMAGED: usize = 40_000;
+const WIDE: usize = 2_690;
+const LONG: usize = 300;
+const LARGEST: usize = 10;
+const DAMAGED: usize = 45_000;
 const SHORT: usize = 40_000;
 
 type Way = fn(&Sheet) -> Worked;
@@ -72,42 +76,53 @@ impl Seen {
     }
 }
 
-fn compare_all(seed: u64, count: usize, way: Way, sheet: impl Fn(&mut Random) -> Vec<u8>) -> Seen {
+/// Sheets of each of these numbers of chores are among those compared.
+fn compare_all(
+    seed: u64,
+    count: usize,
+    way: Way,
+    sheet: impl Fn(&mut Random) -> Vec<u8>,
+    numbers: impl IntoIterator<Item = usize>,
+) -> Seen {
     let mut random = Random::new(seed);
-    let mut seen = Seen::default();
+    let (mut seen, mut sizes) = (Seen::default(), sizes::Seen::default());
     for _ in 0..count {
         let sheet = sheet(&mut random);
-        let lengths = enough(&mut random, usize::from(sheet[1]));
+        let lengths = enough(&mut random, header::chores(&sheet));
         match compared(&mut random, way, &sheet, lengths) {
             ShareOut::Refused(number) => panic!("refused {number}: {sheet:?}"),
             ShareOut::Shared { moves, cuts } => seen.add(&sheet, moves, cuts),
         }
+        sizes.add(&sheet);
     }
     println!("{seen:?}");
     assert!(seen.dear > count / 3, "{seen:?}");
+    sizes.assert_all(numbers, count / 1_000);
     seen
 }
 
 #[test]
 fn small_sheets() {
-    let seen = compare_all(11, SMALL, share_out::work, shapes::small_sheet);
+    let seen = compare_all(11, SMALL, share_out::work, shapes::small_sheet, 0..=17);
     assert!(seen.cut > SMALL / 20 && seen.cuts > 1, "{seen:?}");
 }
 
 #[test]
 fn medium_sheets() {
-    let seen = compare_all(12, MEDIUM, plain::work, shapes::medium_sheet);
+    let seen = compare_all(12, MEDIUM, plain::work, shapes::medium_sheet, 0..=65);
     assert!(seen.cut > MEDIUM / 10 && seen.cuts > 4, "{seen:?}");
 }
 
 #[test]
 fn large_sheets() {
-    let seen = compare_all(13, LARGE, plain::work, shapes::large_sheet);
+    let numbers = sizes::around_bytes(200);
+    let seen = compare_all(13, LARGE, plain::work, shapes::large_sheet, numbers);
     assert!(seen.cuts > 10 && seen.moves > 150, "{seen:?}");
 }
 
+/// Of 32 agents and 200 chores.
 #[test]
-fn largest_sheets() {
+fn wide_sheets() {
     let shape = |random: &mut Random| {
         let shape = if random.chance(30) {
             Shape::Ladder
@@ -116,34 +131,100 @@ fn largest_sheets() {
         };
         shapes::sheet(random, shape, 32, 200)
     };
-    let seen = compare_all(14, LARGEST, plain::work, shape);
-    assert!(seen.cut > LARGEST / 3 && seen.cuts > 4, "{seen:?}");
+    let seen = compare_all(14, WIDE, plain::work, shape, [200]);
+    assert!(seen.cut > WIDE / 3 && seen.cuts > 4, "{seen:?}");
+}
+
+#[test]
+fn long_sheets() {
+    let seen = compare_all(17, LONG, plain::work, shapes::long_sheet, sizes::LONGEST);
+    assert!(seen.cut > LONG / 10 && seen.moves > 2_000, "{seen:?}");
+}
+
+#[test]
+fn largest_sheets() {
+    let seen = compare_all(
+        18,
+        LARGEST,
+        plain::work,
+        shapes::largest_sheet,
+        [MAX_CHORES],
+    );
+    assert!(seen.cuts > 0 && seen.moves > 2_000, "{seen:?}");
+}
+
+/// Enough for a sheet that is still one mostly, or of any length.
+fn some_lengths(random: &mut Random, sheet: &[u8]) -> Lengths {
+    match Sheet::parse(sheet) {
+        Ok(sheet) if random.chance(80) => enough(random, sheet.chores),
+        _ => [random.below(20), random.below(80), random.below(2_048)],
+    }
 }
 
 #[test]
 fn damaged_sheets() {
     let mut random = Random::new(15);
-    let mut numbers = [0; 6];
-    for _ in 0..DAMAGED {
-        let sheet = shapes::small_sheet(&mut random);
-        let sheet = damaged(sheet, &mut random);
-        // A sheet that is still one may have a few chores more.
-        let chores = sheet.get(1).copied().map_or(0, usize::from);
-        let lengths = if random.chance(80) {
-            enough(&mut random, chores)
+    let mut numbers = [0; 9];
+    for faults in one_or_two().cycle().take(DAMAGED) {
+        let mut sheet = if random.chance(2) {
+            shapes::long_sheet(&mut random)
         } else {
-            [random.below(20), random.below(80), random.below(2_048)]
+            shapes::small_sheet(&mut random)
         };
-        if let ShareOut::Refused(number @ 1..=5) =
-            compared(&mut random, share_out::work, &sheet, lengths)
-        {
-            numbers[usize::from(number)] += 1;
+        for fault in faults {
+            harm(&mut random, &mut sheet, fault);
+        }
+        let lengths = some_lengths(&mut random, &sheet);
+        match compared(&mut random, plain::work, &sheet, lengths) {
+            ShareOut::Refused(number) => numbers[usize::from(number)] += 1,
+            ShareOut::Shared { .. } => numbers[0] += 1,
         }
     }
-    assert!(
-        numbers[1..].iter().all(|&count| count > 1_000),
-        "{numbers:?}"
-    );
+    println!("{numbers:?}");
+    for number in [0, 1, 2, 3, 4, 5] {
+        assert!(numbers[number] > 1_000, "{numbers:?}");
+    }
+}
+
+/// The number of a sheet with enough lent for it; 0 for none.
+fn refused(random: &mut Random, sheet: &[u8]) -> u8 {
+    let lengths = enough(random, header::chores(sheet));
+    match compared(random, plain::work, sheet, lengths) {
+        ShareOut::Refused(number) => number,
+        ShareOut::Shared { .. } => 0,
+    }
+}
+
+#[test]
+fn each_bit_after_the_last_chore() {
+    let mut random = Random::new(19);
+    for chores in (1..=40).chain(sizes::LONGEST) {
+        let agents = 1 + random.below(3);
+        let sheet = shapes::sheet(&mut random, Shape::Tempers, agents, chores);
+        let row = row_bytes(chores);
+        let left = 8 * row - chores;
+        for (agent, bit) in (1..=agents).flat_map(|i| (0..left).map(move |bit| (i, bit))) {
+            let mut sheet = sheet.clone();
+            sheet[HEADER_BYTES + agent * row - 1] |= 1 << bit;
+            assert_eq!(refused(&mut random, &sheet), 4, "{sheet:?}");
+        }
+    }
+}
+
+#[test]
+fn each_length_around_the_right_one() {
+    let mut random = Random::new(20);
+    for chores in sizes::around_bytes(40).chain(sizes::LONGEST) {
+        let agents = 1 + random.below(3);
+        let sheet = shapes::sheet(&mut random, Shape::Dear, agents, chores);
+        let exact = sheet.len();
+        for length in (0..=9).chain(exact.saturating_sub(3)..=exact + 9) {
+            let mut sheet = sheet.clone();
+            sheet.resize(length, 0);
+            let number = if length == exact { 0 } else { 5 };
+            assert_eq!(refused(&mut random, &sheet), number, "{sheet:?}");
+        }
+    }
 }
 
 #[test]
@@ -152,7 +233,7 @@ fn short_lists() {
     let mut refused = 0;
     for _ in 0..SHORT {
         let sheet = shapes::small_sheet(&mut random);
-        let lengths = short(&mut random, usize::from(sheet[1]));
+        let lengths = short(&mut random, header::chores(&sheet));
         let answer = compared(&mut random, share_out::work, &sheet, lengths);
         refused += usize::from(answer == ShareOut::Refused(8));
     }

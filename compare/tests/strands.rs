@@ -4,14 +4,14 @@
 use compare::lent::{assert_all_hold, enough, Lent};
 use compare::random::Random;
 use compare::strands::{any_pair, joined, lent_length, Pair};
-use compare::{show_marks, PROVED};
+use compare::{header, show_marks, PROVED};
 use reference::limits::MAX_CHORES;
-use reference::sheet::{Sheet, HEADER_BYTES};
+use reference::sheet::{row_bytes, Sheet, HEADER_BYTES};
 use reference::{plain, price_bytes, refusal, ShareOut, Strand};
 
 const PAIRS: usize = 50_000;
 
-/// Joined sheets of so many bytes are shared out.
+/// Joined sheets of up to so many marks are shared out.
 const SMALL: usize = 160;
 
 /// What a refusal is about.
@@ -62,7 +62,7 @@ impl Seen {
 
 /// The share-out of a joined sheet, from both programs.
 fn compare_share_outs(random: &mut Random, sheet: &[u8]) {
-    let lengths = enough(random, usize::from(sheet[1]));
+    let lengths = enough(random, header::chores(sheet));
     let mut lent = lengths.map(|length| Lent::bytes(random, length));
     let mut expected = lent.each_ref().map(|lent| lent.at_first().to_vec());
     let told = {
@@ -100,12 +100,22 @@ fn add(counts: &mut [usize; 3], these: [bool; 3]) {
     }
 }
 
+/// How often the seam was after so many bits of a byte, with so many bits of a
+/// byte for the last marks of the second strand.
+type Seams = [[usize; 8]; 8];
+
+fn add_seam(seams: &mut Seams, pair: &Pair) {
+    let [first, second] = pair.chores();
+    seams[first % 8][second % 8] += 1;
+}
+
 #[test]
 fn joined_sheets() {
     let mut random = Random::new(61);
     let mut seen = Seen::default();
     let (mut in_order, mut of_none) = ([0; 3], [0; 3]);
     let (mut shared_out, mut full) = (0, 0);
+    let mut seams = Seams::default();
     for _ in 0..PAIRS {
         let pair = any_pair(&mut random);
         let lent = lent_length(&mut random, &pair);
@@ -115,8 +125,10 @@ fn joined_sheets() {
         add(&mut in_order, before(&pair, number, lent));
         let Ok(sheet) = answer else { continue };
         add(&mut of_none, empty(&pair));
-        full += usize::from(usize::from(sheet[1]) == MAX_CHORES);
-        if sheet.len() <= SMALL {
+        add_seam(&mut seams, &pair);
+        let chores = header::chores(&sheet);
+        full += usize::from(chores == MAX_CHORES);
+        if header::agents(&sheet) * chores <= SMALL {
             compare_share_outs(&mut random, &sheet);
             shared_out += 1;
         } else {
@@ -130,6 +142,8 @@ fn joined_sheets() {
     assert!(in_order.iter().all(|&count| count > 200), "{in_order:?}");
     assert!(of_none.iter().all(|&count| count > 200), "{of_none:?}");
     assert!(shared_out > PAIRS / 4 && full > 300, "{shared_out} {full}");
+    let often = |counts: &[usize; 8]| counts.iter().all(|&count| count > 20);
+    assert!(seams.iter().all(often), "{seams:?}");
 }
 
 /// What is told of a row: the refusal number or 0, the strand, start and size.
@@ -167,17 +181,29 @@ fn shown(random: &mut Random, pair: &Pair, whole: Option<&[u8]>, of: [usize; 2])
     number
 }
 
-/// The marks told are the joined sheet's of that agent in that strand.
+/// The bits of some bytes, the high bit of each first.
+fn bits(bytes: &[u8]) -> Vec<bool> {
+    let of_byte = |&byte: &u8| (0..8).map(move |place| byte << place & 128 != 0);
+    bytes.iter().flat_map(of_byte).collect()
+}
+
+/// The marks told are the joined sheet's of that agent in that strand, and no
+/// bit is set after them.
 fn assert_part(pair: &Pair, whole: &[u8], [agent, chore]: [usize; 2], told: Told) {
     let (_, strand, start, size) = told;
-    let [first, all] = [&pair.first, whole].map(|sheet| usize::from(sheet[1]));
-    let row = &whole[HEADER_BYTES + (agent - 1) * all..][..all];
+    let [first, second] = pair.chores();
+    let row = header::row(whole);
+    let both = bits(&whole[HEADER_BYTES + (agent - 1) * row..][..row]);
     let (sheet, part) = match strand {
-        1 => (&pair.first, &row[..first]),
-        2 => (&pair.second, &row[first..]),
+        1 => (&pair.first, &both[..first]),
+        2 => (&pair.second, &both[first..][..second]),
         other => panic!("strand {other}"),
     };
-    assert_eq!(&sheet[start..][..size], part, "{pair:?}");
+    assert_eq!(size, row_bytes(part.len()), "{pair:?}");
+    let shown = bits(&sheet[start..][..size]);
+    let (marks, rest) = shown.split_at(part.len());
+    assert_eq!(marks, part, "{pair:?}");
+    assert!(!rest.contains(&true), "{pair:?}");
     assert_eq!(strand == 1, chore <= first, "{pair:?}");
 }
 

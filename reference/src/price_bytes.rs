@@ -1,6 +1,6 @@
 //! Prices as plain bytes: four to a price, high byte first.
 
-use crate::book::{allocate_book_by, BookShareOut};
+use crate::book::{allocate_book_by, chores_of, sheets_of, BookShareOut};
 use crate::checks::{check_prices, PriceVerdict};
 use crate::record::{self, Recorded};
 use crate::share_out::{allocate_by, ShareOut, Worked};
@@ -50,7 +50,8 @@ pub fn allocate_recorded(
     answer
 }
 
-/// The share-out of a book, with its prices likewise.
+/// The share-out of a book, with its prices likewise. Only as many entries as
+/// the sheets take are written.
 pub fn allocate_book(
     work: fn(&Sheet) -> Worked,
     book: &[u8],
@@ -58,10 +59,20 @@ pub fn allocate_book(
     prices: &mut [u8],
     scratch: &mut [u8],
 ) -> BookShareOut {
-    let mut entries = read(prices);
+    let mut entries = vec![0; prices.len() / PRICE_BYTES];
     let answer = allocate_book_by(work, book, owners, &mut entries, scratch);
-    write(&entries, prices);
+    write(&entries[..entries_taken(book, &answer)], prices);
     answer
+}
+
+fn entries_taken(book: &[u8], answer: &BookShareOut) -> usize {
+    match answer {
+        BookShareOut::Refused(_) => 0,
+        BookShareOut::Shared { .. } => {
+            let bodies = sheets_of(book).expect("the book was accepted");
+            bodies.into_iter().map(chores_of).sum()
+        }
+    }
 }
 
 /// The price check. Bytes that are no whole number of prices count as an

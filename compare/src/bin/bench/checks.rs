@@ -30,7 +30,7 @@ fn wasteful(random: &mut Random, sheet: &[u8]) -> Given {
     loop {
         let (c, d) = (random.below(chores), random.below(chores));
         given.owners.swap(c, d);
-        if check_list(&PROVED, &given) == ListVerdict::Wasteful {
+        if proved(&given) == ListVerdict::Wasteful {
             return given;
         }
         given.owners.swap(c, d);
@@ -54,22 +54,34 @@ fn first_envious(random: &mut Random, given: &mut Given) -> usize {
     loop {
         let chore = random.below(given.owners.len());
         given.owners[chore] = given.sheet[0];
-        if let ListVerdict::Unfair(envious, _) = check_list(&PROVED, given) {
+        if let ListVerdict::Unfair(envious, _) = proved(given) {
             return envious;
         }
     }
 }
 
-fn check_list(program: &dyn Checks, given: &Given) -> ListVerdict {
-    let lent = &mut [0; MAX_CHORES][..given.lent];
-    program.check_list(&given.sheet, &given.owners, lent)
+/// What the list check is lent.
+type Lent = [u8; MAX_CHORES];
+
+fn check_list(program: &dyn Checks, given: &Given, lent: &mut Lent) -> ListVerdict {
+    program.check_list(&given.sheet, &given.owners, &mut lent[..given.lent])
 }
 
-fn row(name: &str, all: &[Given], check: impl Fn(&dyn Checks, &Given)) {
-    let run = |program| all.iter().for_each(|given| check(program, given));
+/// The proved list check.
+fn proved(given: &Given) -> ListVerdict {
+    check_list(&PROVED, given, &mut [0; MAX_CHORES])
+}
+
+fn row(name: &str, all: &[Given], check: impl Fn(&dyn Checks, &Given, &mut Lent)) {
+    let run = |program| {
+        let mut lent = [0; MAX_CHORES];
+        all.iter()
+            .for_each(|given| check(program, given, &mut lent));
+    };
     let [proved, plain, second] = PROGRAMS;
-    let times = in_turn([&mut || run(proved), &mut || run(plain), &mut || run(second)]);
-    columns::row(name, times);
+    let ways: [&mut dyn FnMut(); 3] =
+        [&mut || run(proved), &mut || run(plain), &mut || run(second)];
+    columns::row(name, in_turn(all.len(), ways));
 }
 
 /// All three must say what is expected.
@@ -85,8 +97,8 @@ fn list_row(
         assert_eq!(proved, second, "{given:?}");
         assert_eq!(plain, second, "{given:?}");
     }
-    row(name, all, |program, given| {
-        check_list(program, given);
+    row(name, all, |program, given, lent| {
+        check_list(program, given, lent);
     });
 }
 
@@ -95,7 +107,7 @@ fn price_row(name: &str, all: &[Given]) {
         let verdicts = PROGRAMS.map(|program| given.check_prices(program));
         assert_eq!(verdicts, [PriceVerdict::Accepted; 3], "{given:?}");
     }
-    row(name, all, |program, given| {
+    row(name, all, |program, given, _| {
         given.check_prices(program);
     });
 }
@@ -117,7 +129,7 @@ fn rows(random: &mut Random, agents: usize, chores: usize) {
 
 pub fn table(random: &mut Random) {
     columns::heading("check");
-    for (agents, chores) in [(3, 200), (6, 60), (32, 200)] {
+    for (agents, chores) in [(3, 200), (6, 60), (32, 200), (32, 4_000)] {
         rows(random, agents, chores);
     }
 }

@@ -1,19 +1,18 @@
 //! The join of two strands: proved, in plain C, and the second program's.
 
 use crate::columns;
-use crate::sheets::{halves, COUNT};
+use crate::sheets::{count, halves};
 use crate::timing::in_turn;
 use compare::random::Random;
 use compare::strands::Pair;
 use compare::{Library, PLAIN, PROVED};
-use reference::limits::{MAX_AGENTS, MAX_CHORES};
-use reference::sheet::HEADER_BYTES;
+use reference::sheet::MAX_SHEET_BYTES;
 use reference::{join, Join};
 
 /// What a join is lent, and what it answers.
 #[derive(Debug, PartialEq, Eq)]
 struct Lent {
-    joined: [u8; HEADER_BYTES + MAX_AGENTS * MAX_CHORES],
+    joined: [u8; MAX_SHEET_BYTES],
     written: usize,
 }
 
@@ -23,7 +22,7 @@ type Way = fn(&mut Lent, &Pair);
 impl Lent {
     fn new() -> Self {
         Lent {
-            joined: [0; HEADER_BYTES + MAX_AGENTS * MAX_CHORES],
+            joined: [0; MAX_SHEET_BYTES],
             written: 0,
         }
     }
@@ -68,23 +67,23 @@ fn row(name: &str, pairs: &[Pair]) {
         assert_eq!(proved, second, "{pair:?}");
         assert_eq!(plain, second, "{pair:?}");
     }
-    let times = in_turn([
+    let ways: [&mut dyn FnMut(); 3] = [
         &mut run(Lent::proved, pairs),
         &mut run(Lent::plain, pairs),
         &mut run(Lent::second, pairs),
-    ]);
-    columns::row(name, times);
+    ];
+    columns::row(name, in_turn(pairs.len(), ways));
 }
 
 pub fn table(random: &mut Random) {
     columns::heading("join");
-    for (agents, chores) in [(3, 100), (6, 30), (32, 100)] {
+    for (agents, chores) in [(3, 100), (6, 30), (32, 100), (32, 2_000)] {
         let name = format!("{agents} x {chores} + {chores}");
         let mut pair = |_| Pair {
             first: halves(random, agents, chores),
             second: halves(random, agents, chores),
         };
-        let pairs: Vec<Pair> = (0..COUNT).map(&mut pair).collect();
+        let pairs: Vec<Pair> = (0..count(chores)).map(&mut pair).collect();
         row(&name, &pairs);
     }
 }

@@ -15,14 +15,18 @@ use compare::random::Random;
 
 fn main() {
     println!(
-        "microseconds by sheet: the best of {} runs over {} sheets, weights 1 and 3\n",
-        timing::ROUNDS,
-        sheets::COUNT
+        "microseconds by sheet: the best of {} runs, or of as many as {} seconds allow, over {}\n\
+         sheets, or {} of more than 200 chores; weights 1 and 3\n",
+        timing::RUNS,
+        timing::TIME.as_secs(),
+        sheets::COUNT,
+        sheets::COUNT_OF_LONG
     );
     let mut random = Random::new(31);
     share_outs::table(&mut random);
-    println!();
     // Of their own, so that their rows decide nothing about the tables after them.
+    share_outs::long_rows(&mut Random::new(34));
+    println!();
     checks::table(&mut Random::new(32));
     println!();
     joins::table(&mut Random::new(33));

@@ -12,26 +12,27 @@ const MOVES: usize = 10_000;
 fn row(name: &str, sheets: &[Vec<u8>]) {
     let mut desk = Desk::new();
     let mut record = [0; MOVE_BYTES * MOVES];
-    let [recorded, without] = in_turn([
+    let ways: [&mut dyn FnMut(); 2] = [
         &mut || {
             for sheet in sheets {
                 desk.recorded(sheet, &mut record);
             }
         },
         &mut run(Desk::proved, sheets),
-    ]);
+    ];
+    let [recorded, without] = in_turn(sheets.len(), ways);
     println!(
-        "{name:<41}{recorded:>9.2}{without:>9.2}{:>7.2}",
+        "{name:<42}{recorded:>10.2}{without:>10.2}{:>7.2}",
         recorded / without
     );
 }
 
 pub fn table(random: &mut Random) {
     println!(
-        "{:<41}{:>9}{:>9}{:>7}",
+        "{:<42}{:>10}{:>10}{:>7}",
         "share-out with a record", "with", "without", "ratio"
     );
-    for (agents, chores) in [(3, 200), (6, 60), (32, 200)] {
+    for (agents, chores) in [(3, 200), (6, 60), (32, 200), (32, 4_000)] {
         let name = format!("{agents} x {chores}, random");
         row(&name, &sheets(random, halves, agents, chores));
     }

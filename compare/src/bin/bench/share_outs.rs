@@ -1,10 +1,11 @@
 //! The share-out: proved, in plain C, and the second program's.
 
-use crate::sheets::{halves, ladder, sheets, COUNT};
+use crate::columns::NAME;
+use crate::sheets::{all_difficult, few_easy, halves, ladder, many_moves, sheets, Make};
 use crate::timing::in_turn;
 use compare::random::Random;
 use compare::{Library, PLAIN, PROVED};
-use reference::limits::{MAX_CHORES, MIN_SCRATCH};
+use reference::limits::{MAX_AGENTS, MAX_CHORES, MIN_SCRATCH};
 use reference::price_bytes::PRICE_BYTES;
 use reference::{plain, price_bytes, ShareOut};
 
@@ -97,7 +98,8 @@ fn agreed(sheets: &[Vec<u8>]) -> (f64, f64) {
         moves += proved.moves as f64;
         cuts += f64::from(proved.cuts);
     }
-    (moves / COUNT as f64, cuts / COUNT as f64)
+    let count = sheets.len() as f64;
+    (moves / count, cuts / count)
 }
 
 pub fn run(way: Way, sheets: &[Vec<u8>]) -> impl FnMut() + '_ {
@@ -107,13 +109,14 @@ pub fn run(way: Way, sheets: &[Vec<u8>]) -> impl FnMut() + '_ {
 
 fn row(name: &str, sheets: &[Vec<u8>]) {
     let (moves, cuts) = agreed(sheets);
-    let [proved, plain, second] = in_turn([
+    let ways: [&mut dyn FnMut(); 3] = [
         &mut run(Desk::proved, sheets),
         &mut run(Desk::plain, sheets),
         &mut run(Desk::second, sheets),
-    ]);
+    ];
+    let [proved, plain, second] = in_turn(sheets.len(), ways);
     println!(
-        "{name:<26}{moves:>7.1}{cuts:>6.1}{proved:>9.2}{plain:>9.2}{:>7.2}{second:>11.2}{:>7.2}",
+        "{name:<NAME$}{moves:>7.1}{cuts:>6.1}{proved:>10.2}{plain:>10.2}{:>7.2}{second:>11.2}{:>7.2}",
         proved / plain,
         proved / second
     );
@@ -121,7 +124,7 @@ fn row(name: &str, sheets: &[Vec<u8>]) {
 
 pub fn table(random: &mut Random) {
     println!(
-        "{:<26}{:>7}{:>6}{:>9}{:>9}{:>7}{:>11}{:>7}",
+        "{:<NAME$}{:>7}{:>6}{:>10}{:>10}{:>7}{:>11}{:>7}",
         "share-out", "moves", "cuts", "proved", "plain C", "ratio", "reference", "ratio"
     );
     for (agents, chores) in [(1, 200), (2, 200), (3, 200), (6, 60), (32, 200)] {
@@ -129,4 +132,20 @@ pub fn table(random: &mut Random) {
         row(&name, &sheets(random, halves, agents, chores));
     }
     row("32 x 200, disjoint likes", &sheets(random, ladder, 32, 200));
+}
+
+/// The rows of as many chores as there may be.
+pub fn long_rows(random: &mut Random) {
+    let rows: [(usize, &str, Make); 6] = [
+        (2, "random", halves),
+        (2, "many moves", many_moves),
+        (MAX_AGENTS, "random", halves),
+        (MAX_AGENTS, "disjoint likes", ladder),
+        (MAX_AGENTS, "difficult 0.97", few_easy),
+        (MAX_AGENTS, "24 difficult rows", all_difficult),
+    ];
+    for (agents, kind, make) in rows {
+        let name = format!("{agents} x {MAX_CHORES}, {kind}");
+        row(&name, &sheets(random, make, agents, MAX_CHORES));
+    }
 }
