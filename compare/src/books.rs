@@ -40,10 +40,9 @@ pub fn large_book(random: &mut Random) -> Vec<u8> {
     book_of(random, 20, |random| [200, 180][random.below(2)])
 }
 
-/// A book that fills both long lists, or nearly.
-pub fn full_book(random: &mut Random, full: bool) -> Vec<u8> {
-    let below = if full { 1 } else { 8 };
-    book_of(random, 3, |random| MAX_CHORES - random.below(below))
+/// A book that fills both long lists, but for up to so many entries a sheet.
+pub fn full_book(random: &mut Random, less: usize) -> Vec<u8> {
+    book_of(random, 3, |random| MAX_CHORES - random.below(less + 1))
 }
 
 fn book_of(random: &mut Random, agents: usize, chores: impl Fn(&mut Random) -> usize) -> Vec<u8> {

@@ -14,9 +14,9 @@ pub enum Fault {
     Chores,
     /// The bytes of the number of chores the wrong way round.
     Swapped,
-    /// Weights that are none.
+    /// Weights that break their rule.
     Weights,
-    /// A byte more or less at the end.
+    /// A byte or a row more or less at the end.
     Length,
     /// A row that lacks a byte.
     ShortRow,
@@ -119,10 +119,12 @@ fn set_two_bytes(sheet: &mut [u8], at: usize, number: u16) {
 }
 
 fn change_length(random: &mut Random, sheet: &mut Vec<u8>) {
+    let by = [1, header::row(sheet).max(1)][random.below(2)];
     if random.chance(50) {
-        sheet.pop();
+        sheet.truncate(sheet.len().saturating_sub(by));
     } else {
-        sheet.push([0, random.byte()][random.below(2)]);
+        let more = [vec![0; by], random.bytes(by)];
+        sheet.extend(&more[random.below(2)]);
     }
 }
 

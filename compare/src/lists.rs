@@ -1,8 +1,9 @@
 //! Random lists and prices for the two checks, and the list check with what it
 //! writes looked at.
 
-use crate::random::{self, damaged, Random};
-use crate::{damage, header, shapes, Checks};
+use crate::damage::damaged;
+use crate::random::{self, Random};
+use crate::{header, shapes, Checks};
 use reference::sheet::Sheet;
 use reference::{dominates, plain, ListVerdict, PriceVerdict};
 
@@ -73,10 +74,10 @@ pub fn damaged_given(random: &mut Random) -> Given {
     let (agents, chores) = (header::agents(&sheet), header::chores(&sheet));
     let mut owners = random::owners(random, agents, chores);
     if random.chance(60) {
-        sheet = damage::damaged(random, sheet);
+        sheet = damaged(random, sheet);
     }
     if random.chance(60) {
-        owners = damaged(owners, random);
+        owners = damaged_list(owners, random);
     }
     Given {
         sheet,
@@ -84,6 +85,21 @@ pub fn damaged_given(random: &mut Random) -> Given {
         lent: random.below(chores + 3),
         prices: any_prices(random, chores),
     }
+}
+
+/// Any bytes in place of some of the first ones, and sometimes another length.
+fn damaged_list(mut bytes: Vec<u8>, random: &mut Random) -> Vec<u8> {
+    for _ in 0..1 + random.below(3) {
+        if !bytes.is_empty() && random.chance(70) {
+            let at = random.below(bytes.len().min(10));
+            bytes[at] = random.byte();
+        } else if random.chance(50) {
+            bytes.pop();
+        } else {
+            bytes.push(random.byte());
+        }
+    }
+    bytes
 }
 
 /// Of m entries mostly; now and then with bytes that make no entry.

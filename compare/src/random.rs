@@ -59,19 +59,3 @@ pub fn owners(random: &mut Random, agents: usize, chores: usize) -> Vec<u8> {
         .map(|_| 1 + random.below(agents) as u8)
         .collect()
 }
-
-/// A list with any bytes in place of some of the first ones, and sometimes of
-/// another length.
-pub fn damaged(mut bytes: Vec<u8>, random: &mut Random) -> Vec<u8> {
-    for _ in 0..1 + random.below(3) {
-        if !bytes.is_empty() && random.chance(70) {
-            let at = random.below(bytes.len().min(10));
-            bytes[at] = random.byte();
-        } else if random.chance(50) {
-            bytes.pop();
-        } else {
-            bytes.push(random.byte());
-        }
-    }
-    bytes
-}

@@ -207,7 +207,7 @@ pub fn large_sheet(random: &mut Random) -> Vec<u8> {
     sheet_of(random, MAX_AGENTS, chores)
 }
 
-/// Up to 4 agents and more than 200 chores, mostly as many as there may be or
+/// Up to 4 agents and 200 chores or more, mostly as many as there may be or
 /// nearly.
 pub fn long_sheet(random: &mut Random) -> Vec<u8> {
     let chores = sizes::many_chores(random);

@@ -20,7 +20,7 @@ pub fn chores(random: &mut Random, most: usize) -> usize {
     (full - 1 + random.below(3)).min(most)
 }
 
-/// The limit or just under it mostly, or any number above 200.
+/// The limit or just under it mostly, or any number from 200 on.
 pub fn many_chores(random: &mut Random) -> usize {
     match random.below(4) {
         0 => 200 + chores(random, MAX_CHORES - 200),

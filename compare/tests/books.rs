@@ -266,7 +266,7 @@ fn full_books() {
     let mut lists = Lists::new(&mut random);
     let mut sizes = sizes::Seen::default();
     for round in 0..FULL {
-        let book = books::full_book(&mut random, round % 3 == 0);
+        let book = books::full_book(&mut random, [0, 7, 7][round % 3]);
         let BookShareOut::Shared { sheets, .. } = compared(&mut random, &mut lists, &book, LEAST)
         else {
             panic!("refused: {book:?}")

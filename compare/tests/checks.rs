@@ -161,15 +161,21 @@ fn long_price_lists_get_the_same_verdict() {
     assert!(chore > MAX_CHORES / 2, "{chore}");
 }
 
-/// Sums at their greatest: every price at its limit, and few who hold them.
+/// Sums at their greatest: every price at its limit, and a first agent who holds
+/// from few of them to all.
 #[test]
 fn greatest_prices_get_the_same_verdict() {
     let mut random = Random::new(5);
     let prices = bytes(vec![MAX_PRICE; MAX_CHORES]);
-    for agents in 1..=MAX_AGENTS {
+    for percent in 0..=100 {
+        let agents = [1, 2, 3, MAX_AGENTS][percent % 4];
         let sheet = compose::sheet(999, 1000, &vec!["e".repeat(MAX_CHORES); agents]);
-        let holders = 1 + random.below(agents);
-        let owners = random::owners(&mut random, holders, MAX_CHORES);
+        let mut owners = random::owners(&mut random, agents, MAX_CHORES);
+        owners.iter_mut().for_each(|owner| {
+            if random.chance(percent) {
+                *owner = 1;
+            }
+        });
         compare_prices(&sheet, &owners, &prices);
     }
 }

@@ -7,7 +7,7 @@ pub const CHORES: u8 = 2;
 /// Weights that are not 1 <= easy < difficult <= the limit.
 pub const WEIGHTS: u8 = 3;
 /// A set bit after the last chore of a row.
-pub const MARK: u8 = 4;
+pub const BIT: u8 = 4;
 /// A sheet of the wrong length.
 pub const LENGTH: u8 = 5;
 /// An owner list that is not one entry per chore.

@@ -56,7 +56,7 @@ impl<'a> Sheet<'a> {
             return Err(refusal::LENGTH);
         }
         if (0..self.agents).any(|agent| self.goes_on(agent)) {
-            return Err(refusal::MARK);
+            return Err(refusal::BIT);
         }
         Ok(())
     }

@@ -2,10 +2,11 @@
 
 mod common;
 
-use common::{a, b, c, chores_of, e, share, Random};
+use common::{a, as_bytes, b, c, chores_of, e, share, Random};
 use reference::limits::{BOOK_ENTRIES, MIN_SCRATCH};
 use reference::output::{line, shares};
-use reference::{allocate_book, compose, lookup, BookShareOut, SheetShareOut, Tally};
+use reference::{allocate_book, compose, lookup, plain, price_bytes};
+use reference::{BookShareOut, SheetShareOut, Tally};
 
 /// A book's share-out, and whether all that was lent kept its content.
 fn share_book(book: &[u8], lengths: [usize; 3]) -> (BookShareOut, bool) {
@@ -210,22 +211,48 @@ fn print_of(book: &[u8]) -> String {
     print + &format!("total moves {moves} cuts {cuts}\n")
 }
 
+/// A small sheet mostly, now and then a byte short. In some rounds a long one.
+fn some_body(random: &mut Random, round: usize) -> Vec<u8> {
+    let (agents, chores) = match round % 100 {
+        0 => (1 + random.below(4), 4_000 - random.below(9)),
+        _ => (1 + random.below(6), random.below(20)),
+    };
+    let mut sheet = random.sheet(agents, chores);
+    sheet.truncate(sheet.len() - usize::from(random.below(8) == 0));
+    sheet
+}
+
 #[test]
 fn the_print_sheet_by_sheet_is_that_of_the_book() {
     let mut random = Random::new(14);
     for round in 0..300 {
-        let mut body = || {
-            let (agents, chores) = match round % 100 {
-                0 => (1 + random.below(4), 4_000 - random.below(9)),
-                _ => (1 + random.below(6), random.below(20)),
-            };
-            let mut sheet = random.sheet(agents, chores);
-            sheet.truncate(sheet.len() - usize::from(random.below(8) == 0));
-            sheet
-        };
-        let bodies: Vec<Vec<u8>> = (0..16).map(|_| body()).collect();
+        let bodies: Vec<Vec<u8>> = (0..16).map(|_| some_body(&mut random, round)).collect();
         let book = compose::book(&bodies);
         assert_eq!(shares(&book), print_of(&book));
+    }
+}
+
+#[test]
+fn prices_as_bytes() {
+    let mut random = Random::new(15);
+    for round in 0..100 {
+        let bodies: Vec<Vec<u8>> = (0..16).map(|_| some_body(&mut random, round)).collect();
+        let book = compose::book(&bodies);
+        let mut owners = [vec![77; BOOK_ENTRIES], vec![77; BOOK_ENTRIES]];
+        let mut prices = vec![0x4e4e_4e4e; BOOK_ENTRIES];
+        let mut bytes = vec![0x4e; 4 * BOOK_ENTRIES + 3];
+        let mut scratch = [0; MIN_SCRATCH];
+        let answer = allocate_book(&book, &mut owners[0], &mut prices, &mut scratch);
+        let work = plain::work;
+        let of_bytes =
+            price_bytes::allocate_book(work, &book, &mut owners[1], &mut bytes, &mut scratch);
+        assert_eq!(of_bytes, answer);
+        assert_eq!(owners[0], owners[1]);
+        assert_eq!(bytes, [&as_bytes(&prices)[..], &[0x4e; 3]].concat());
+        // A book that is refused.
+        let refused = price_bytes::allocate_book(work, &[], &mut [], &mut bytes, &mut scratch);
+        assert_eq!(refused, BookShareOut::Refused(9));
+        assert_eq!(bytes, [&as_bytes(&prices)[..], &[0x4e; 3]].concat());
     }
 }
 

@@ -92,7 +92,7 @@ fn any_bit_after_the_last_chore_is_refused() {
             for place in chores.saturating_sub(1)..bits {
                 let mut changed = sheet.clone();
                 changed[HEADER_BYTES + (agent * bits + place) / 8] ^= 1 << (7 - place % 8);
-                let expected = (place >= chores).then_some(refusal::MARK);
+                let expected = (place >= chores).then_some(refusal::BIT);
                 assert_eq!(Sheet::parse(&changed).err(), expected, "{agent} {place}");
             }
         }
