@@ -39,6 +39,7 @@ static bool is_set(const Market *market, size_t agent, size_t place)
     return market->marks[agent * market->row_bytes + place / 8] >> (7 - place % 8) & 1;
 }
 
+/* Whether a bit after the agent's last mark is set. */
 static bool has_bits_left(const Market *market, size_t agent)
 {
     for (size_t k = market->chores; k < 8 * market->row_bytes; k++)

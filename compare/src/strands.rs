@@ -68,19 +68,20 @@ pub fn any_pair(random: &mut Random) -> Pair {
 }
 
 /// Agents, and the chores of each strand: few mostly; some as many as two
-/// strands may have together, one or two more, or any number.
+/// strands may have together, a few less, one or two more, or any number.
 fn sizes(random: &mut Random) -> (usize, [usize; 2]) {
     match random.below(200) {
-        0..=15 => {
-            let one = sizes::chores(random, MAX_CHORES);
-            let other = MAX_CHORES + random.below(3) - one;
-            (few_agents(random), [one, other])
+        0..=23 => {
+            let both = [MAX_CHORES + random.below(3), MAX_CHORES - random.below(8)];
+            let both = both[random.below(2)];
+            let one = sizes::chores(random, both.min(MAX_CHORES));
+            (few_agents(random), [one, both - one])
         }
-        16..=18 => {
+        24..=26 => {
             let chores = [(); 2].map(|_| sizes::chores(random, MAX_CHORES));
             (any_agents(random), chores)
         }
-        19..=30 => {
+        27..=38 => {
             let chores = [(); 2].map(|_| sizes::chores(random, 200));
             (any_agents(random), chores)
         }

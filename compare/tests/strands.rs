@@ -4,7 +4,7 @@
 use compare::lent::{assert_all_hold, enough, Lent};
 use compare::random::Random;
 use compare::strands::{any_pair, joined, lent_length, Pair};
-use compare::{header, show_marks, PROVED};
+use compare::{header, show_marks, sizes, PROVED};
 use reference::limits::MAX_CHORES;
 use reference::sheet::{row_bytes, Sheet, HEADER_BYTES};
 use reference::{plain, price_bytes, refusal, ShareOut, Strand};
@@ -114,8 +114,8 @@ fn joined_sheets() {
     let mut random = Random::new(61);
     let mut seen = Seen::default();
     let (mut in_order, mut of_none) = ([0; 3], [0; 3]);
-    let (mut shared_out, mut full) = (0, 0);
-    let mut seams = Seams::default();
+    let mut shared_out = 0;
+    let (mut seams, mut sizes) = (Seams::default(), sizes::Seen::default());
     for _ in 0..PAIRS {
         let pair = any_pair(&mut random);
         let lent = lent_length(&mut random, &pair);
@@ -126,22 +126,23 @@ fn joined_sheets() {
         let Ok(sheet) = answer else { continue };
         add(&mut of_none, empty(&pair));
         add_seam(&mut seams, &pair);
-        let chores = header::chores(&sheet);
-        full += usize::from(chores == MAX_CHORES);
-        if header::agents(&sheet) * chores <= SMALL {
+        sizes.add(&sheet);
+        if header::agents(&sheet) * header::chores(&sheet) <= SMALL {
             compare_share_outs(&mut random, &sheet);
             shared_out += 1;
         } else {
             assert!(Sheet::parse(&sheet).is_ok(), "{pair:?}");
         }
     }
-    println!("{seen:?} {in_order:?} {of_none:?} {shared_out} {full}");
+    println!("{seen:?} {in_order:?} {of_none:?} {shared_out}");
     seen.assert_own();
     let least = [(0, PAIRS / 4), (2, 1_000), (8, 3_000), (12, 3_000)];
     seen.assert_only(Cause::Both, &least);
     assert!(in_order.iter().all(|&count| count > 200), "{in_order:?}");
     assert!(of_none.iter().all(|&count| count > 200), "{of_none:?}");
-    assert!(shared_out > PAIRS / 4 && full > 300, "{shared_out} {full}");
+    assert!(shared_out > PAIRS / 4, "{shared_out}");
+    sizes.assert_all((0..=50).chain(sizes::LONGEST), 10);
+    sizes.assert_all([MAX_CHORES], 300);
     let often = |counts: &[usize; 8]| counts.iter().all(|&count| count > 20);
     assert!(seams.iter().all(often), "{seams:?}");
 }

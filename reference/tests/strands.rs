@@ -58,43 +58,45 @@ fn worked_pairs() {
 /// One agent's row of a strand: how many marks, and their bytes.
 type Row = (usize, &'static [u8]);
 
+/// Two rows, and the row that they make.
+const SEAMS: [(Row, Row, &[u8]); 8] = [
+    // Inside a byte, which both fill, leave bits of, or go on after.
+    ((3, &[0b1010_0000]), (5, &[0b1001_1000]), &[0b1011_0011]),
+    ((3, &[0b1010_0000]), (4, &[0b1001_0000]), &[0b1011_0010]),
+    (
+        (3, &[0b1010_0000]),
+        (6, &[0b1001_1100]),
+        &[0b1011_0011, 0b1000_0000],
+    ),
+    // Two bytes of the second make three.
+    (
+        (7, &[0b0111_1110]),
+        (10, &[0b1000_0001, 0b0100_0000]),
+        &[0b0111_1111, 0b0000_0010, 0b1000_0000],
+    ),
+    // Between two bytes.
+    (
+        (8, &[0b1010_0101]),
+        (1, &[0b1000_0000]),
+        &[0b1010_0101, 0b1000_0000],
+    ),
+    // After the first bit of a byte, and before the last.
+    (
+        (9, &[0b0000_0000, 0b1000_0000]),
+        (7, &[0b0000_0010]),
+        &[0b0000_0000, 0b1000_0001],
+    ),
+    ((1, &[0b1000_0000]), (8, &[0xff]), &[0xff, 0b1000_0000]),
+    (
+        (0, &[]),
+        (9, &[0b0101_0101, 0b1000_0000]),
+        &[0b0101_0101, 0b1000_0000],
+    ),
+];
+
 #[test]
 fn bytes_around_the_seam() {
-    let table: [(Row, Row, &[u8]); 8] = [
-        // Inside a byte, which both fill, leave bits of, or go on after.
-        ((3, &[0b1010_0000]), (5, &[0b1001_1000]), &[0b1011_0011]),
-        ((3, &[0b1010_0000]), (4, &[0b1001_0000]), &[0b1011_0010]),
-        (
-            (3, &[0b1010_0000]),
-            (6, &[0b1001_1100]),
-            &[0b1011_0011, 0b1000_0000],
-        ),
-        // Two bytes of the second make three.
-        (
-            (7, &[0b0111_1110]),
-            (10, &[0b1000_0001, 0b0100_0000]),
-            &[0b0111_1111, 0b0000_0010, 0b1000_0000],
-        ),
-        // Between two bytes.
-        (
-            (8, &[0b1010_0101]),
-            (1, &[0b1000_0000]),
-            &[0b1010_0101, 0b1000_0000],
-        ),
-        // After the first bit of a byte, and before the last.
-        (
-            (9, &[0b0000_0000, 0b1000_0000]),
-            (7, &[0b0000_0010]),
-            &[0b0000_0000, 0b1000_0001],
-        ),
-        ((1, &[0b1000_0000]), (8, &[0xff]), &[0xff, 0b1000_0000]),
-        (
-            (0, &[]),
-            (9, &[0b0101_0101, 0b1000_0000]),
-            &[0b0101_0101, 0b1000_0000],
-        ),
-    ];
-    for ((one, first), (other, second), expected) in table {
+    for ((one, first), (other, second), expected) in SEAMS {
         let sheet = |chores, row: &[u8]| [&compose::header(1, chores, 1, 3), row].concat();
         let both = joined(&sheet(one, first), &sheet(other, second));
         assert_eq!(both, Ok(sheet(one + other, expected)));
