@@ -68,7 +68,7 @@ static uint8_t read_sheet(Market *market, const uint8_t *sheet, size_t length)
         return SHARES_BAD_LENGTH;
     for (size_t i = 0; i < market->agents; i++)
         if (has_bits_left(market, i))
-            return SHARES_BAD_MARK;
+            return SHARES_BAD_PADDING;
     return SHARES_OK;
 }
 
