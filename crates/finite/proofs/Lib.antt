@@ -16,3 +16,4 @@ pub mod Reach
 pub mod Distances
 pub mod Bits
 pub mod Packed
+pub mod Shifts

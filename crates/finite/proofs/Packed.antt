@@ -151,7 +151,7 @@ packed-bit m t c l =
 
 -- a set bit after the last of m
 
-bit-of-rest : {i d : ℕ} (x : ℕ) → i < d → bit (x % 2 ^ d) i ≡ bit x i
+pub bit-of-rest : {i d : ℕ} (x : ℕ) → i < d → bit (x % 2 ^ d) i ≡ bit x i
 unfolding bit
 bit-of-rest {i} {d} x l =
     let j = d - i - 1 in
