@@ -1,21 +1,22 @@
 -- An agent's row out of the sheet that holds a chore, and what it is on the joined sheet.
 -- Assumes nothing.
-use Prim.Native.Nat.{ℕ, _-_, _<_}
-use mathlib.Core.List.{List, [], _++_}
+use Prim.Native.Nat.{ℕ, _+_, _-_, _<_}
+use mathlib.Core.List.{List, []}
 use mathlib.Core.Path.{_≡_, refl, sym, ap, subst, _∙_}
+use native.Mathlib.Nat.{zero-add}
 use native.Mathlib.Omega.{arith}
 use lib.ListN.{length}
-use lib.Seq.{take-at, drop-at}
 use borrow.Author.Tests.{eq-eqb, ne-eqb}
+use Rattle.finite.specs.Packed.{bitAt}
 use Rattle.finite.proofs.Tests.{by-test, by-cond}
-use Rattle.model.specs.Sheet.{agentsOf, choresOf, rowOf}
-use Rattle.model.specs.Strands.{joinedRow, joinedSheet, inFirst, strandSheet, strandMarks, joinedMarks}
+use Rattle.model.specs.Sheet.{agentsOf, choresOf, rowOf, isDifficult}
+use Rattle.model.specs.Strands.{joinedSheet, inFirst, strandSheet, strandMarks, strandBegin, OnJoined}
 use Rattle.model.specs.Refusals.{showRefusal}
 use Rattle.model.specs.Promises.{shownMarks, MarksShown}
 use Rattle.sheet.specs.Valid.{Valid, Joinable}
 use Rattle.sheet.specs.Readers.{RowInSheet}
 use Rattle.sheet.proofs.Marks.{row-long}
-use Rattle.sheet.proofs.Strands.{first-row, joined-row}
+use Rattle.sheet.proofs.Strands.{mark-first, mark-second}
 use Rattle.strands.proofs.Refusals.{show-joinable, show-person}
 
 -- the sheet that holds a chore is one of two that agree
@@ -57,25 +58,27 @@ module _ (first second : List ℕ) (person chore : ℕ) where
       held-valid = one .valid
 
       pub held-row : {m : ℕ} → m ≡ choresOf held → RowInSheet held m (person - 1)
-      held-row few = record { long = held-valid .long; chores = few; agent = omega (arith, agent-there, one .agents) }
+      held-row few = record { valid = held-valid; chores = few; agent = omega (arith, agent-there, one .agents) }
 
-    -- the joined sheet's row is that of the first and then that of the second
-    strand-on-joined : strandMarks first second person chore ≡ joinedMarks first second person chore
-    unfolding strandMarks joinedMarks strandSheet joinedRow
-    strand-on-joined =
-        let i = person - 1 in
-        let row : rowOf (joinedSheet first second) i ≡ rowOf first i ++ rowOf second i = joined-row J i agent-there in
-        let long : length (rowOf first i) ≡ choresOf first = row-long (first-row J agent-there refl) in
+    -- a mark of that sheet is the joined sheet's, as far on as the strand begins there
+    strand-mark : (c : ℕ) → c < choresOf (strandSheet first second chore) → isDifficult (strandSheet first second chore) (person - 1) c ≡ isDifficult (joinedSheet first second) (person - 1) (strandBegin first chore + c)
+    unfolding strandSheet strandBegin
+    strand-mark c =
         by-test (inFirst first chore)
-        (λ e. rw (e, row, take-at (rowOf first i) (rowOf second i) _ long))
-        (λ e. rw (e, row, drop-at (rowOf first i) (rowOf second i) _ long))
+        (λ e. rw (e, zero-add c) (λ l. sym (mark-first J (person - 1) c agent-there l)))
+        (λ e. rw e (λ l. sym (mark-second J (person - 1) c agent-there l)))
 
     pub shown : {k : ℕ} {held marks : List ℕ} → k ≡ showRefusal first second person chore → held ≡ strandSheet first second chore → marks ≡ rowOf held (person - 1) → MarksShown first second person chore k marks
-    unfolding shownMarks strandMarks
+    unfolding shownMarks strandMarks isDifficult
     shown told e row =
         let out = row ∙ ap (λ s. rowOf s (person - 1)) e in
+        let there = held-row refl refl in
         record {
           answer = told;
           part = out ∙ sym (rw (eq-eqb (showRefusal first second person chore) 0 z));
-          onJoined = λ _. out ∙ strand-on-joined;
+          onJoined = λ _.
+              record {
+                size = ap length out ∙ row-long (strandSheet first second chore) (person - 1) (there .valid .long) (there .agent);
+                mark = λ c l. ap (λ r. bitAt r c) out ∙ strand-mark c l;
+              };
         }

@@ -1,16 +1,17 @@
 // Two strands: whether their sheets can be joined, the sheet that they make, and an agent's marks out of the sheet that holds a chore.
 
 ghost use mathlib.Core.Path.{_≡_};
-ghost use Prim.Native.Nat.{_≤_};
+ghost use Prim.Native.Nat.{_/_, _%_, _≤_, _<_};
 ghost use mathlib.Core.List.{_∷_};
-ghost use lib.ListN.{length, take, drop};
+ghost use lib.ListN.{length, getD, take, drop};
 ghost use lib.Seq.{sets};
 ghost use Rattle.model.specs.Sheet.{headerSize, agentsOf};
 ghost use Rattle.model.specs.Strands.{agree, joinedChores, joinedRows, joinedSheet, inFirst, strandOf, strandSheet};
 ghost use Rattle.model.specs.Refusals.{strandsRefusal, joinRefusal, showRefusal};
 ghost use Rattle.model.specs.Promises.{SheetsJoined, MarksShown};
 ghost use Rattle.sheet.specs.Valid.{Joinable};
-ghost use Rattle.strands.specs.Parts.{Headers, Stretch, Room};
+ghost use Rattle.sheet.specs.Readers.{Read};
+ghost use Rattle.strands.specs.Parts.{Headers, Room, ByteOf, movedBit, rowsMark, bothRows, Ends, RowsLent};
 
 fn agree(first: &[u8], second: &[u8]) -> bool
     requires { ⌜ Headers (now first) (now second) ⌝ }
@@ -46,7 +47,7 @@ fn joined_size(first: &[u8], second: &[u8]) -> usize
     requires { ⌜ Joinable (now first) (now second) ⌝ }
     ensures { λ r. ⌜ r ≡ length (joinedSheet (now (first .entry)) (now (second .entry))) ⌝ }
 {
-    model::HEADER_SIZE + sheet::agents(first) * joined_chores(first, second)
+    sheet::row_start(joined_chores(first, second), sheet::agents(first))
 }
 
 fn join_refusal(first: &[u8], second: &[u8], lent: usize) -> u8
@@ -72,33 +73,60 @@ pub fn show_refusal<'a>(first: &'a [u8], second: &'a [u8], person: usize, chore:
     sheet::or_else(refusal, sheet::when(9, sheet::out_of_range(chore, m)))
 }
 
-// The one place where marks go from a sheet to another: `count` of them, from `start` on, to `at`.
-fn copy_marks(sheet: &[u8], start: usize, count: usize, joined: &mut [u8], at: usize)
-    requires { ⌜ Stretch (now sheet) start count (now joined) at ⌝ }
-    ensures { λ _. ⌜ now (joined .exit) ≡ sets (now (joined .entry)) at (take count (drop start (now (sheet .entry)))) ⌝ }
+// A row's byte, or 0 where it has none.
+fn row_byte(row: &[u8], k: usize) -> u32
+    ensures { λ r. ⌜ Read (getD (now (row .entry)) k 0) 256 r ⌝ }
 {
+    if k < row.len() {
+        return sheet::byte_at(row, k);
+    }
+    0
+}
+
+// The byte before it, or 0 at the start.
+fn byte_before(row: &[u8], k: usize) -> u32
+    ensures { λ r. ⌜ Read (getD (0 ∷ now (row .entry)) k 0) 256 r ⌝ }
+{
+    if k == 0 {
+        return 0;
+    }
+    row_byte(row, k - 1)
+}
+
+// Byte k of a row that is moved to the right by so many bits.
+fn moved_byte(row: &[u8], by: usize, k: usize) -> u32
+    ensures { λ r. ⌜ ByteOf (movedBit (now (row .entry)) by) k r ⌝ }
+{
+    let begin = by / 8;
+    if k < begin {
+        return 0;
+    }
+    let pair = 256 * byte_before(row, k - begin) + row_byte(row, k - begin);
+    (pair >> (by % 8)) % 256
+}
+
+// Byte k of the row that two rows make: the second's marks follow the m of the first at the bit.
+fn joined_byte(row1: &[u8], m: usize, row2: &[u8], k: usize) -> u8
+    requires { ⌜ Ends (now row1) m ⌝ }
+    ensures { λ r. ⌜ ByteOf (rowsMark (now (row1 .entry)) m (now (row2 .entry))) k r ⌝ }
+{
+    (row_byte(row1, k) | moved_byte(row2, m, k)) as u8
+}
+
+// The one place where marks go from a sheet to another: those of an agent, out of both its rows.
+fn write_row(row1: &[u8], m1: usize, row2: &[u8], m2: usize, joined: &mut [u8], at: usize)
+    requires { ⌜ RowsLent (now row1) m1 (now row2) m2 (now joined) at ⌝ }
+    ensures { λ _. ⌜ now (joined .exit) ≡ sets (now (joined .entry)) at (bothRows (now (row1 .entry)) m1 (now (row2 .entry)) m2) ⌝ }
+{
+    let size = sheet::row_size(m1 + m2);
     let mut k = 0;
-    while k < count {
-        joined[at + k] = sheet[start + k];
+    while k < size {
+        joined[at + k] = joined_byte(row1, m1, row2, k);
         k += 1;
     }
 }
 
-// All but the count is the first sheet's.
-fn write_header(first: &[u8], m: u8, joined: &mut [u8])
-    requires { ⌜ headerSize ≤ length (now first) ⌝ }
-    requires { ⌜ headerSize ≤ length (now joined) ⌝ }
-    ensures { λ _. ⌜ now (joined .exit) ≡ sets (now (joined .entry)) 0 (agentsOf (now (first .entry)) ∷ m ∷ take 4 (drop 2 (now (first .entry)))) ⌝ }
-{
-    joined[0] = first[0];
-    joined[1] = m;
-    joined[2] = first[2];
-    joined[3] = first[3];
-    joined[4] = first[4];
-    joined[5] = first[5];
-}
-
-// Agent by agent the marks of the first strand, and after them those of the second.
+// Agent by agent, with the numbers of chores of both strands.
 fn write_rows(first: &[u8], second: &[u8], joined: &mut [u8])
     requires { ⌜ Room (now first) (now second) (now joined) ⌝ }
     ensures { λ _. ⌜ now (joined .exit) ≡ sets (now (joined .entry)) headerSize (joinedRows (now (first .entry)) (now (second .entry)) (agentsOf (now (first .entry)))) ⌝ }
@@ -106,14 +134,29 @@ fn write_rows(first: &[u8], second: &[u8], joined: &mut [u8])
     let n = sheet::agents(first);
     let m1 = sheet::chores(first);
     let m2 = sheet::chores(second);
-    let mut at = model::HEADER_SIZE;
     let mut i = 0;
     while i < n {
-        copy_marks(first, sheet::row_start(m1, i), m1, joined, at);
-        copy_marks(second, sheet::row_start(m2, i), m2, joined, at + m1);
-        at += m1 + m2;
+        let row1 = sheet::row(first, m1, i);
+        let row2 = sheet::row(second, m2, i);
+        write_row(row1, m1, row2, m2, joined, sheet::row_start(m1 + m2, i));
         i += 1;
     }
+}
+
+// The count in two bytes, high byte first; all else is the first sheet's.
+fn write_header(first: &[u8], m: usize, joined: &mut [u8])
+    requires { ⌜ headerSize ≤ length (now first) ⌝ }
+    requires { ⌜ headerSize ≤ length (now joined) ⌝ }
+    requires { ⌜ m < 65536 ⌝ }
+    ensures { λ _. ⌜ now (joined .exit) ≡ sets (now (joined .entry)) 0 (agentsOf (now (first .entry)) ∷ m / 256 ∷ m % 256 ∷ take 4 (drop 3 (now (first .entry)))) ⌝ }
+{
+    joined[0] = first[0];
+    joined[1] = (m / 256) as u8;
+    joined[2] = (m % 256) as u8;
+    joined[3] = first[3];
+    joined[4] = first[4];
+    joined[5] = first[5];
+    joined[6] = first[6];
 }
 
 // The joined sheet stands at the start of the lent list, and the answer tells its size.
@@ -125,7 +168,7 @@ pub fn join_sheets(first: &[u8], second: &[u8], joined: &mut [u8]) -> model::Joi
         return model::Join::Refused(refusal);
     }
     let m = joined_chores(first, second);
-    write_header(first, m as u8, joined);
+    write_header(first, m, joined);
     write_rows(first, second, joined);
     model::Join::Joined {
         size: joined_size(first, second),

@@ -30,13 +30,10 @@ lent c = record { joinable = join-joinable _ _ _ (right c); room = join-room _ _
 joined-chores-requires : tie.Need-joined-chores-requires
 joined-chores-requires c κs = joinable-headers (lent c .joinable)
 
-cast-write-header : tie.Need-cast-write-header
-cast-write-header c =
-    let few : c .joined-chores .result ≤ 200 = omega (arith, c .joined-chores .ensures, lent (c .before) .joinable .fits) in
-    omega arith
-
 write-header-requires : tie.Need-write-header-requires
-write-header-requires c κs = let R = lent (c .before .before) in (R .joinable .validFirst .header, header-room R)
+write-header-requires c κs =
+    let R = lent (c .before .before) in
+    (R .joinable .validFirst .header, (header-room R, omega (arith, c .before .joined-chores .ensures, R .joinable .fits)))
 
 write-rows-requires : tie.Need-write-rows-requires
 write-rows-requires c κs =
@@ -62,7 +59,6 @@ join-sheets-spec =
     join-refusal-requires
     returns
     joined-chores-requires
-    cast-write-header
     write-header-requires
     write-rows-requires
     joined-size-requires

@@ -1,37 +1,28 @@
--- `strands::joined_size` meets its contract.
-use Prim.Native.Nat.{_*_, _≤_}
+-- `strands::joined_size` meets its contract: a row after the last would start there.
 use mathlib.Core.Path.{sym, _∙_}
-use native.Mathlib.Nat.{mul-le-mul}
 use native.Mathlib.Omega.{arith}
+use borrow.Author.Needs.{needs}
 use Rattle.sheet.proofs.Strands.{joined-long}
 use Rattle.strands.proofs.Refusals.{joinable-headers}
 use Rattle.strands.proofs.joined_size.Statement.{statement}
 use Rattle.strands.proofs.joined_size.Tie as tie
 
-agents-requires : tie.Need-agents-requires
-agents-requires c κs = c .before .before .pre .validFirst .header
-
 joined-chores-requires : tie.Need-joined-chores-requires
-joined-chores-requires c κs = joinable-headers (c .before .before .before .pre)
+joined-chores-requires c κs = joinable-headers (c .before .before .pre)
 
--- the product of two small numbers
-few : (c : tie.After-joined-chores) → c .before .agents .result * c .joined-chores .result ≤ 32 * 200
-few c =
-    let J = c .before .before .before .before .pre in
-    let agents : c .before .agents .result ≤ 32 = omega (arith, c .before .agents .ensures .is, J .validFirst .agentsFit) in
-    let chores : c .joined-chores .result ≤ 200 = omega (arith, c .joined-chores .ensures, J .fits) in
-    mul-le-mul agents chores
+agents-requires : tie.Need-agents-requires
+agents-requires c κs = c .before .before .before .pre .validFirst .header
 
-mul-result : tie.Need-mul-result
-mul-result c = omega (arith, few c)
-
-add-result : tie.Need-add-result
-add-result c = omega (arith, few c)
+row-start-requires : tie.Need-row-start-requires
+row-start-requires c κs =
+    let few = c .before .before .before .before .pre .fits in
+    (omega (arith, few, c .before .joined-chores .ensures), omega (arith, c .agents .ensures .below))
 
 returns : tie.Need-returns
-returns c = sym (joined-long (c .before .before .before .before .pre) ∙ rw (c .before .agents .ensures .is, c .joined-chores .ensures))
+returns c =
+    c .row-start .ensures
+    ∙ rw (c .before .agents .ensures .is, c .before .before .joined-chores .ensures) (sym (joined-long (c .before .before .before .before .before .pre)))
 
 pub joined-size-spec : {M : Type 1} → statement M
 joined-size-spec =
-    tie.close
-    (tie.spec agents-requires joined-chores-requires mul-result add-result returns)
+    tie.close (tie.spec joined-chores-requires agents-requires row-start-requires returns)

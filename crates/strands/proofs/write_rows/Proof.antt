@@ -1,20 +1,20 @@
 -- `strands::write_rows` meets its contract. The loop's invariant is `Writing`.
 use Prim.Native.Nat.{_-_}
-use mathlib.Core.Path.{_≡_, refl, ap, _∙_}
+use mathlib.Core.Path.{_≡_, ap, _∙_}
 use native.Mathlib.Omega.{arith}
 use lib.Seq.{sets}
 use borrow.Author.Needs.{needs}
 use Rattle.model.specs.Sheet.{headerSize, agentsOf}
 use Rattle.model.specs.Strands.{joinedRows}
-use Rattle.strands.proofs.Joining.{Writing, write-zero, write-sized, Turn, row-room, stretch₁, stretch₂, write-next}
+use Rattle.strands.proofs.Joining.{Writing, write-zero, write-sized, Turn, turn-first, turn-second, turn-few, turn-lent, write-next}
 use Rattle.strands.proofs.write_rows.Statement.{statement}
 use Rattle.strands.proofs.write_rows.Tie as tie
 
 abbrev Inv-loop : tie.InvT-loop
-Inv-loop first second joined₀ n m1 m2 at₀ i₀ joined at i = Writing first second joined₀ joined at i
+Inv-loop first second joined₀ n m1 m2 i₀ joined i = Writing first second joined₀ joined i
 
 abbrev μ-loop : tie.MeasureT-loop
-μ-loop first second joined₀ n m1 m2 at₀ i₀ joined at i = n - i
+μ-loop first second joined₀ n m1 m2 i₀ joined i = n - i
 
 agents-requires : tie.Need-agents-requires Inv-loop μ-loop
 agents-requires c κs = c .before .before .before .pre .joinable .validFirst .header
@@ -32,7 +32,7 @@ abbrev start : tie.In-loop Inv-loop μ-loop → tie.Start Inv-loop μ-loop
 start c = c .before .before .before .before .before .before .before .before
 
 -- one turn: the agent is there, and the list holds the rows before it
-turn : (c : tie.In-loop Inv-loop μ-loop) → Turn (start c .args .first .now) (start c .args .second .now) (start c .args .joined .now) (c .before .loop .joined) (c .before .loop .at) (c .before .loop .i) (c .before .before .before .chores .result) (c .before .before .chores2 .result)
+turn : (c : tie.In-loop Inv-loop μ-loop) → Turn (start c .args .first .now) (start c .args .second .now) (start c .args .joined .now) (c .before .loop .joined) (c .before .loop .i) (c .before .before .before .chores .result) (c .before .before .chores2 .result)
 turn c =
     let chores = c .before .before in
     record {
@@ -43,33 +43,25 @@ turn c =
       chores₂ = chores .chores2 .ensures .is;
     }
 
--- and it is still there when both rows are copied
-abbrev begun : tie.After-slice-known3 Inv-loop μ-loop → tie.In-loop Inv-loop μ-loop
-begun c = c .before .before .before .before .before .before .before .before .before .before
+row-requires : tie.Need-row-requires Inv-loop μ-loop
+row-requires c κs = turn-first (turn c)
+
+row-requires-2 : tie.Need-row-requires-2 Inv-loop μ-loop
+row-requires-2 c κs = turn-second (turn (c .before))
+
+add-row-start : tie.Need-add-row-start Inv-loop μ-loop
+add-row-start c = let few = turn-few (turn (c .before .before .before)) .1 in omega arith
 
 row-start-requires : tie.Need-row-start-requires Inv-loop μ-loop
-row-start-requires c κs = let l = stretch₁ (turn c) refl .inside in omega arith
+row-start-requires c κs = let few = turn-few (turn (c .before .before .before)) in (omega (arith, few .1), few .0)
 
-copy-marks-requires : tie.Need-copy-marks-requires Inv-loop μ-loop
-copy-marks-requires c κs = stretch₁ (turn (c .before .before)) (c .before .row-start .ensures)
+-- when both rows are there, and where the joined one starts
+abbrev begun : tie.After-row-start Inv-loop μ-loop → tie.In-loop Inv-loop μ-loop
+begun c = c .before .before .before .before
 
-row-start-requires-2 : tie.Need-row-start-requires-2 Inv-loop μ-loop
-row-start-requires-2 c κs =
-    let l = stretch₂ (turn (c .before .before .before .before .before)) (c .before .before .before .before .row-start .ensures) refl (c .before .before .copy-marks .ensures) .inside in
-    omega arith
-
-add-copy-marks : tie.Need-add-copy-marks Inv-loop μ-loop
-add-copy-marks c = let l = row-room (turn (c .before .before .before .before .before .before .before)) in omega arith
-
-copy-marks-requires-2 : tie.Need-copy-marks-requires-2 Inv-loop μ-loop
-copy-marks-requires-2 c κs =
-    stretch₂ (turn (c .before .before .before .before .before .before .before)) (c .before .before .before .before .before .before .row-start .ensures) (c .before .row-start2 .ensures) (c .before .before .before .before .copy-marks .ensures)
-
-add-at : tie.Need-add-at Inv-loop μ-loop
-add-at c = let l = row-room (turn (begun c)) in omega arith
-
-add-at-2 : tie.Need-add-at-2 Inv-loop μ-loop
-add-at-2 c = let l = row-room (turn (begun c)) in omega arith
+write-row-requires : tie.Need-write-row-requires Inv-loop μ-loop
+write-row-requires c κs =
+    turn-lent (turn (begun c)) (c .before .before .before .row .ensures) (c .before .before .row2 .ensures) (c .row-start .ensures)
 
 add-i : tie.Need-add-i Inv-loop μ-loop
 add-i c = search needs
@@ -79,9 +71,8 @@ loop-less c = search needs
 
 loop-again : tie.Need-loop-again Inv-loop μ-loop
 loop-again c =
-    let copied = c .before .before in
-    let first = copied .before .before .before .before .before in
-    write-next (turn (begun c)) (first .before .before .row-start .ensures) (copied .before .before .row-start2 .ensures) (first .copy-marks .ensures) (copied .copy-marks2 .ensures)
+    let there = c .before .before .before in
+    write-next (turn (begun there)) (there .before .before .before .row .ensures) (there .before .before .row2 .ensures) (there .row-start .ensures) (c .before .before .write-row .ensures)
 
 same-length : tie.Need-same-length Inv-loop μ-loop
 same-length c = write-sized (c .before .loop .inv)
@@ -102,13 +93,11 @@ write-rows-spec =
     chores-requires
     chores-requires-2
     loop-holds
+    row-requires
+    row-requires-2
+    add-row-start
     row-start-requires
-    copy-marks-requires
-    row-start-requires-2
-    add-copy-marks
-    copy-marks-requires-2
-    add-at
-    add-at-2
+    write-row-requires
     add-i
     loop-less
     loop-again
