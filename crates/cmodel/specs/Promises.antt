@@ -9,7 +9,7 @@ use Rattle.finite.specs.Lists.{tabulate}
 use Rattle.model.specs.declared.ShareOut.{ShareOut}
 use Rattle.model.specs.declared.BookResult.{BookResult}
 use Rattle.model.specs.Instance.{ownerOf, priceOf}
-use Rattle.model.specs.Sheet.{agentsOf, choresOf, rowStart, asMarked}
+use Rattle.model.specs.Sheet.{agentsOf, choresOf, rowSize, rowStart, asMarked}
 use Rattle.model.specs.Strands.{joinedSheet, strandOf, strandSheet}
 use Rattle.model.specs.Contents.{sheetCount, sheetStart, sheetSize, sheetOf}
 use Rattle.model.specs.Record.{Move}
@@ -99,7 +99,7 @@ pub record ShownInC (first second : List ℕ) (person chore strand start size st
   pub answer : r ≡ showRefusal first second person chore
   pub strandAtExit : strand′ ≡ cond (eqb r 0) (strandOf first chore) strand
   pub startAtExit : start′ ≡ cond (eqb r 0) (rowStart (strandSheet first second chore) (person - 1)) start
-  pub sizeAtExit : size′ ≡ cond (eqb r 0) (choresOf (strandSheet first second chore)) size
+  pub sizeAtExit : size′ ≡ cond (eqb r 0) (rowSize (strandSheet first second chore)) size
   -- "shown out of whichever of the two sheets holds the reel"
   pub inside : r ≡ 0 → start′ + size′ ≤ length (strandSheet first second chore)
   pub shown : r ≡ 0 → MarksShown first second person chore r (take size′ (drop start′ (strandSheet first second chore)))

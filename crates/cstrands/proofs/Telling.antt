@@ -9,9 +9,10 @@ use lib.Dec.{eqb}
 use lib.ListN.{length, take, drop}
 use lib.Seq.{take-at}
 use borrow.Author.Tests.{eq-eqb, ne-eqb, eqb-true}
+use Rattle.finite.specs.Packed.{bytesFor}
 use Rattle.finite.proofs.Tests.{by-test}
 use Rattle.model.specs.declared.Join.{Join}
-use Rattle.model.specs.Sheet.{headerSize, choresOf, rowStart, rowOf}
+use Rattle.model.specs.Sheet.{headerSize, choresOf, rowSize, rowStart, rowOf}
 use Rattle.model.specs.Strands.{joinedSheet, strandOf, strandSheet}
 use Rattle.model.specs.Refusals.{sheetRefusal, joinRefusal, showRefusal}
 use Rattle.model.specs.Replies.{refused, joined, joinReply}
@@ -71,16 +72,19 @@ module _ (first second : List ℕ) (person chore : ℕ) where
         shown = λ z. absurd (h z);
       }
 
-  pub marks-told : {strand start size strand′ start′ size′ : ℕ} {held : List ℕ} → showRefusal first second person chore ≡ 0 → held ≡ strandSheet first second chore → strand′ ≡ strandOf first chore → size′ ≡ choresOf held → start′ ≡ headerSize + (person - 1) * size′ → ShownInC first second person chore strand start size strand′ start′ size′ 0
+  pub marks-told : {strand start size strand′ start′ size′ m : ℕ} {held : List ℕ} → showRefusal first second person chore ≡ 0 → held ≡ strandSheet first second chore → strand′ ≡ strandOf first chore → m ≡ choresOf held → start′ ≡ headerSize + (person - 1) * bytesFor m → size′ ≡ bytesFor m → ShownInC first second person chore strand start size strand′ start′ size′ 0
   unfolding rowOf
-  marks-told {start′ = start′} {size′} z e number few begins =
-      let many : size′ ≡ choresOf (strandSheet first second chore) = few ∙ ap choresOf e in
-      let at : start′ ≡ rowStart (strandSheet first second chore) (person - 1) = begins ∙ ap (λ m. headerSize + (person - 1) * m) many in
+  marks-told {start′ = start′} {size′} z e number few begins wide =
+      let sheet = strandSheet first second chore in
+      let many = few ∙ ap choresOf e in
+      let at : start′ ≡ rowStart sheet (person - 1) = begins ∙ ap (λ k. headerSize + (person - 1) * bytesFor k) many in
+      let long : size′ ≡ rowSize sheet = wide ∙ ap bytesFor many in
+      let there = held-row first second person chore z refl refl in
       record {
         answer = sym z;
         strandAtExit = number;
         startAtExit = at;
-        sizeAtExit = many;
-        inside = λ _. rw begins (row-inside (held-row first second person chore z refl many));
-        shown = λ _. shown first second person chore z (sym z) refl (rw (at, many));
+        sizeAtExit = long;
+        inside = λ _. rw (at, long) (row-inside sheet (person - 1) (there .valid .long) (there .agent));
+        shown = λ _. shown first second person chore z (sym z) refl (rw (at, long));
       }

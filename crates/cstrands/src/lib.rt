@@ -43,6 +43,6 @@ pub fn show_marks<'a>(
     let m = sheet::chores(held);
     *strand = strands::strand_of(first, chore);
     *start = sheet::row_start(m, person - 1);
-    *size = m;
+    *size = sheet::row_size(m);
     0
 }

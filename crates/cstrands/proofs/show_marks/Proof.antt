@@ -3,7 +3,6 @@ use mathlib.Core.Path.{_≡_, sym, _∙_}
 use native.Mathlib.Omega.{arith}
 use borrow.Author.Needs.{needs}
 use Rattle.model.specs.Refusals.{showRefusal}
-use Rattle.sheet.proofs.Marks.{row-inside}
 use Rattle.strands.proofs.Refusals.{show-joinable, show-person}
 use Rattle.strands.proofs.Showing.{held-valid, held-row}
 use Rattle.cstrands.proofs.Telling.{not-told, marks-told}
@@ -37,13 +36,16 @@ sub-row-start c = show-person _ _ _ _ (right (c .before .before .before)) .0
 
 row-start-requires : tie.Need-row-start-requires
 row-start-requires c κs =
-    let l = row-inside (held-row _ _ _ _ (right (c .before .before .before)) (c .before .before .strand-sheet .ensures) (c .before .chores .ensures .is)) in
-    omega arith
+    let there = held-row _ _ _ _ (right (c .before .before .before)) (c .before .before .strand-sheet .ensures) (c .before .chores .ensures .is) in
+    (c .before .chores .ensures .below, omega (arith, there .agent, there .valid .agentsFit))
+
+row-size-requires : tie.Need-row-size-requires
+row-size-requires c κs = c .before .before .chores .ensures .below
 
 returns-2 : tie.Need-returns-2
 returns-2 c =
-    let told = c .before .before in
-    marks-told _ _ _ _ (right (told .before .before)) (told .before .strand-sheet .ensures) (c .before .strand-of .ensures) (told .chores .ensures .is) (c .row-start .ensures)
+    let told = c .before .before .before in
+    marks-told _ _ _ _ (right (told .before .before)) (told .before .strand-sheet .ensures) (c .before .before .strand-of .ensures) (told .chores .ensures .is) (c .before .row-start .ensures) (c .row-size .ensures)
 
 pub show-marks-spec : {M : Type 1} → statement M
 show-marks-spec =
@@ -56,4 +58,5 @@ show-marks-spec =
     strand-of-requires
     sub-row-start
     row-start-requires
+    row-size-requires
     returns-2)
