@@ -1,134 +1,112 @@
 -- The bytes of a joined row, bit by bit: the first's marks, the second's moved to where they end, and nothing after the last.
 -- Assumes nothing.
 use Prim.Native.Nat.{ℕ, zero, suc, _+_, _*_, _-_, _/_, _%_, _^_, _≤_, _<_}
-use mathlib.Core.Bool.{Bool, true, false, cond, _&&_, _||_}
+use mathlib.Core.Bool.{Bool, true, false, cond, _&&_}
 use mathlib.Core.List.{List, _∷_}
-use mathlib.Core.Path.{_≡_, refl, sym, ap, ap₂, _∙_}
-use native.Mathlib.Nat.{mod-lt}
+use mathlib.Core.Path.{_≡_, refl, sym, ap, _∙_}
 use native.Mathlib.Omega.{arith}
-use lib.Bits.{bitOr, or-lt}
-use lib.Dec.{leb, ltb}
+use lib.Dec.{ltb}
 use lib.ListN.{length, getD, List·getD-eq-default}
-use borrow.Author.Tests.{le-leb, lt-leb, lt-ltb, le-ltb}
+use borrow.Author.Tests.{lt-ltb, le-ltb}
 use Rattle.finite.specs.Bits.{bit}
-use Rattle.finite.specs.Packed.{bitAt, bytesFor, packBits, packedByte, packed}
+use Rattle.finite.specs.Packed.{bitAt, bytesFor, packedByte, packed}
 use Rattle.finite.proofs.Below.{by-less}
-use Rattle.finite.proofs.Bits.{bit-or, bit-zero, or-false}
+use Rattle.finite.proofs.Bits.{bit-zero}
 use Rattle.finite.proofs.Lists.{tab-at}
 use Rattle.finite.proofs.Packed.{bit-in-byte, byte-packs}
-use Rattle.finite.proofs.Shifts.{pair-high, pair-low}
+use Rattle.finite.proofs.Shifts.{bit-shr, pair-high, pair-low}
 use Rattle.model.specs.Sheet.{choresOf, rowSize, rowOf, isDifficult}
 use Rattle.model.specs.Strands.{joinedChores, joinedMark, joinedRow}
-use Rattle.sheet.specs.Readers.{Read, RowInSheet}
+use Rattle.sheet.specs.Readers.{RowInSheet}
 use Rattle.sheet.proofs.Marks.{row-long}
-use Rattle.strands.specs.Parts.{ByteOf, movedBit, rowsMark, bothRows, Ends}
+use Rattle.strands.specs.Parts.{movedByte, rowsMark, bothRows, RowsLent}
 
--- bytes of some bits
+-- r is byte k of some bits
+record ByteOf (t : ℕ → Bool) (k r : ℕ) : Type 0 where
+  below : r < 256
+  bits : (j : ℕ) → j < 8 → bit r (7 - j) ≡ t (8 * k + j)
 
-pub byte-same : {t u : ℕ → Bool} {k r : ℕ} → ((c : ℕ) → t c ≡ u c) → ByteOf t k r → ByteOf u k r
-byte-same {k = k} same b = record { below = b .below; bits = λ j l. b .bits j l ∙ same (8 * k + j) }
+-- two rows, the second's marks after the m of the first
+module _ (row₁ : List ℕ) (m : ℕ) (row₂ : List ℕ) where
+  -- a mark on either side of the seam
+  mark-before : {c : ℕ} → c < m → rowsMark row₁ m row₂ c ≡ bitAt row₁ c
+  unfolding rowsMark
+  mark-before {c} l = rw (lt-ltb c m l)
 
-pub byte-or : {t u : ℕ → Bool} {k a b : ℕ} → ByteOf t k a → ByteOf u k b → ByteOf (λ c. t c || u c) k (bitOr a b)
-byte-or {a = a} {b} x y =
-    record {
-      below = or-lt 8 a b (x .below) (y .below);
-      bits = λ j l. bit-or a b (7 - j) ∙ ap₂ _||_ (x .bits j l) (y .bits j l);
-    }
+  mark-after : {c : ℕ} (d : ℕ) → c ≡ m + d → rowsMark row₁ m row₂ c ≡ bitAt row₂ d
+  unfolding rowsMark
+  mark-after {c} d e = let rest : c - m ≡ d = omega arith in rw (le-ltb c m (omega arith), rest)
 
--- a byte that was read
-pub byte-read : {k r : ℕ} (row : List ℕ) → Read (getD row k 0) 256 r → ByteOf (bitAt row) k r
-byte-read {k} row R = record { below = R .below; bits = λ j l. rw (R .is) (sym (bit-in-byte row k j l)) }
+  -- a whole byte of the first's
+  whole-byte : (k : ℕ) → k < m / 8 → getD row₁ k 0 < 256 → ByteOf (rowsMark row₁ m row₂) k (getD row₁ k 0)
+  whole-byte k l small =
+      record {
+        below = small;
+        bits = λ j h. sym (mark-before (omega arith) ∙ bit-in-byte row₁ k j h);
+      }
 
--- the byte before it
-pub read-before : {r : ℕ} (row : List ℕ) (k : ℕ) → (k ≡ 0 → ⊥) → Read (getD row (k - 1) 0) 256 r → Read (getD (0 ∷ row) k 0) 256 r
-read-before row zero some R = absurd (some refl)
-read-before row (suc k) some R = let same : suc k - 1 ≡ k = omega arith in rw same at R
+  -- the bits of a moved byte that lie in the one before it: the first's last, or the second's
+  from-high : (k j high : ℕ) → high ≡ getD (getD row₁ (m / 8) 0 / 2 ^ (8 - m % 8) ∷ row₂) k 0 → j < m % 8 → bit high (7 - (8 + j - m % 8)) ≡ rowsMark row₁ m row₂ (8 * (m / 8 + k) + j)
+  from-high zero j high e h =
+      let none : 8 * (m / 8 + 0) + j ≡ 8 * (m / 8) + j = omega arith in
+      let place : 8 - m % 8 + (7 - (8 + j - m % 8)) ≡ 7 - j = omega arith in
+      ap (λ x. bit x (7 - (8 + j - m % 8))) e
+      ∙ bit-shr (getD row₁ (m / 8) 0) (8 - m % 8) (7 - (8 + j - m % 8))
+      ∙ ap (bit (getD row₁ (m / 8) 0)) place
+      ∙ sym (ap (rowsMark row₁ m row₂) none ∙ mark-before (omega arith) ∙ bit-in-byte row₁ (m / 8) j (omega arith))
+  from-high (suc k) j high e h =
+      ap (λ x. bit x (7 - (8 + j - m % 8))) e
+      ∙ sym (mark-after (8 * k + (8 + j - m % 8)) (omega arith) ∙ bit-in-byte row₂ k (8 + j - m % 8) (omega arith))
 
--- a byte of what is packed
-pub byte-packed : {k r : ℕ} (m : ℕ) (t : ℕ → Bool) → k < bytesFor m → ByteOf (λ c. ltb c m && t c) k r → r ≡ getD (packed m t) k 0
-unfolding packed packedByte
-byte-packed {k} {r} m t l b =
-    byte-packs r (λ j. ltb (8 * k + j) m && t (8 * k + j)) (b .below) (b .bits) ∙ sym (tab-at (packedByte m t) k 0 l)
+  moved-bits : (k high low : ℕ) → high ≡ getD (getD row₁ (m / 8) 0 / 2 ^ (8 - m % 8) ∷ row₂) k 0 → low ≡ getD row₂ k 0 → low < 256 → ByteOf (rowsMark row₁ m row₂) (m / 8 + k) (movedByte high low (m % 8))
+  moved-bits k high low e f small =
+      record {
+        below = omega arith;
+        bits = λ j h.
+            by-less j (m % 8)
+            (λ l. pair-high high low (m % 8) j small h (omega arith) l ∙ from-high k j high e l)
+            (λ l.
+            pair-low high low (m % 8) j small h l
+            ∙ ap (λ x. bit x (7 - (j - m % 8))) f
+            ∙ sym (mark-after (8 * k + (j - m % 8)) (omega arith) ∙ bit-in-byte row₂ k (j - m % 8) (omega arith)));
+      }
 
--- a row moved to the right
+-- .. as the joined row has them, with nothing after the last
+module _ {row₁ row₂ joined : List ℕ} {m₁ m₂ at : ℕ} (L : RowsLent row₁ m₁ row₂ m₂ joined at) where
+  no-more : (c : ℕ) → rowsMark row₁ m₁ row₂ c ≡ (ltb c (m₁ + m₂) && rowsMark row₁ m₁ row₂ c)
+  no-more c =
+      by-less c (m₁ + m₂)
+      (λ l. rw (lt-ltb c (m₁ + m₂) l))
+      (λ l. rw (le-ltb c (m₁ + m₂) l) (mark-after row₁ m₁ row₂ (c - m₁) (omega arith) ∙ L .after (c - m₁) (omega arith)))
 
-module _ (row : List ℕ) (by k : ℕ) where
-  -- no byte before it has a bit
-  pub moved-before : k < by / 8 → ByteOf (movedBit row by) k 0
-  unfolding movedBit
-  moved-before l =
-      record { below = omega arith; bits = λ j h. bit-zero (7 - j) ∙ sym (ap (λ t. t && bitAt row (8 * k + j - by)) (lt-leb by (8 * k + j) (omega arith))) }
+  both-byte : {k r : ℕ} → k < bytesFor (m₁ + m₂) → ByteOf (rowsMark row₁ m₁ row₂) k r → r ≡ getD (bothRows row₁ m₁ row₂ m₂) k 0
+  unfolding packed packedByte
+  both-byte {k} {r} l B =
+      let t = rowsMark row₁ m₁ row₂ in
+      byte-packs r (λ j. ltb (8 * k + j) (m₁ + m₂) && t (8 * k + j)) (B .below) (λ j h. B .bits j h ∙ no-more (8 * k + j))
+      ∙ sym (tab-at (packedByte (m₁ + m₂) t) k 0 l)
 
-  module _ {high low : ℕ} (l : by / 8 ≤ k) (H : Read (getD (0 ∷ row) (k - by / 8) 0) 256 high) (L : Read (getD row (k - by / 8) 0) 256 low) where
-    -- its bits that lie in the byte before
-    from-high : (at j : ℕ) → k ≡ at + by / 8 → getD (0 ∷ row) at 0 ≡ high → j < by % 8 → bit high (7 - (8 + j - by % 8)) ≡ movedBit row by (8 * k + j)
-    unfolding movedBit
-    from-high zero j e is h =
-        ap (λ x. bit x (7 - (8 + j - by % 8))) (sym is)
-        ∙ bit-zero (7 - (8 + j - by % 8))
-        ∙ sym (ap (λ t. t && bitAt row (8 * k + j - by)) (lt-leb by (8 * k + j) (omega arith)))
-    from-high (suc at) j e is h =
-        let place : 8 * k + j - by ≡ 8 * at + (8 + j - by % 8) = omega arith in
-        ap (λ x. bit x (7 - (8 + j - by % 8))) (sym is)
-        ∙ sym (bit-in-byte row at (8 + j - by % 8) (omega arith))
-        ∙ ap (bitAt row) (sym place)
-        ∙ sym (ap (λ t. t && bitAt row (8 * k + j - by)) (le-leb by (8 * k + j) (omega arith)))
+  pub both-whole : (k : ℕ) → k < m₁ / 8 → getD row₁ k 0 < 256 → getD row₁ k 0 ≡ getD (bothRows row₁ m₁ row₂ m₂) k 0
+  both-whole k l small = both-byte (omega arith) (whole-byte row₁ m₁ row₂ k l small)
 
-    from-low : (j : ℕ) → j < 8 → by % 8 ≤ j → bit low (7 - (j - by % 8)) ≡ movedBit row by (8 * k + j)
-    unfolding movedBit
-    from-low j h m =
-        let place : 8 * k + j - by ≡ 8 * (k - by / 8) + (j - by % 8) = omega arith in
-        ap (λ x. bit x (7 - (j - by % 8))) (L .is)
-        ∙ sym (bit-in-byte row (k - by / 8) (j - by % 8) (omega arith))
-        ∙ ap (bitAt row) (sym place)
-        ∙ sym (ap (λ t. t && bitAt row (8 * k + j - by)) (le-leb by (8 * k + j) (omega arith)))
-
-    pub moved-pair : ByteOf (movedBit row by) k ((256 * high + low) / 2 ^ (by % 8) % 256)
-    moved-pair =
-        let short : by % 8 < 8 = omega arith in
-        record {
-          below = omega arith;
-          bits = λ j h.
-              by-less j (by % 8)
-              (λ m. pair-high high low (by % 8) j (L .below) h short m ∙ from-high (k - by / 8) j (omega arith) (sym (H .is)) m)
-              (λ m. pair-low high low (by % 8) j (L .below) h m ∙ from-low j h m);
-        }
-
--- two rows, one after the other
-
-pub rows-mark : {row₁ : List ℕ} {m : ℕ} (row₂ : List ℕ) (c : ℕ) → Ends row₁ m → (bitAt row₁ c || movedBit row₂ m c) ≡ rowsMark row₁ m row₂ c
-unfolding movedBit rowsMark
-rows-mark {row₁} {m} row₂ c E =
-    by-less c m
-    (λ l. rw (lt-ltb c m l, lt-leb m c l) (or-false (bitAt row₁ c)))
-    (λ l. rw (le-ltb c m l, le-leb m c l, E .after c l))
-
-pub byte-both : {row₁ : List ℕ} {m k a b : ℕ} (row₂ : List ℕ) → Ends row₁ m → Read (getD row₁ k 0) 256 a → ByteOf (movedBit row₂ m) k b → ByteOf (rowsMark row₁ m row₂) k (bitOr a b)
-byte-both {row₁} row₂ E R B = byte-same (λ c. rows-mark row₂ c E) (byte-or (byte-read row₁ R) B)
-
--- and after both no bit is set
-pub rows-after : {row₂ : List ℕ} {m₂ : ℕ} (row₁ : List ℕ) (m₁ c : ℕ) → Ends row₂ m₂ → rowsMark row₁ m₁ row₂ c ≡ (ltb c (m₁ + m₂) && rowsMark row₁ m₁ row₂ c)
-unfolding rowsMark
-rows-after {row₂} {m₂} row₁ m₁ c E =
-    by-less c (m₁ + m₂)
-    (λ l. rw (lt-ltb c (m₁ + m₂) l))
-    (λ l. rw (le-ltb c (m₁ + m₂) l, le-ltb c m₁ (omega arith)) (E .after (c - m₁) (omega arith)))
+  pub both-moved : (k high low : ℕ) → m₁ / 8 + k < bytesFor (m₁ + m₂) → high ≡ getD (getD row₁ (m₁ / 8) 0 / 2 ^ (8 - m₁ % 8) ∷ row₂) k 0 → low ≡ getD row₂ k 0 → low < 256 → movedByte high low (m₁ % 8) ≡ getD (bothRows row₁ m₁ row₂ m₂) (m₁ / 8 + k) 0
+  both-moved k high low l e f small = both-byte l (moved-bits row₁ m₁ row₂ k high low e f small)
 
 -- rows of sheets that break no rule
 
-pub row-ends : {s : List ℕ} {m i : ℕ} → RowInSheet s m i → Ends (rowOf s i) m
+pub row-after : {s : List ℕ} {m i : ℕ} → RowInSheet s m i → (c : ℕ) → m ≤ c → bitAt (rowOf s i) c ≡ false
 unfolding bitAt
-row-ends {s} {m} {i} R =
-    record {
-      after = λ c l.
-          by-less c (8 * rowSize s)
-          (λ h.
-          let past : c ≡ choresOf s + (c - choresOf s) = omega (arith, R .chores) in
-          ap (bitAt (rowOf s i)) past ∙ R .valid .padding i (c - choresOf s) (R .agent) (omega (arith, R .chores)))
-          (λ h.
-          let none : getD (rowOf s i) (c / 8) 0 ≡ 0 = List·getD-eq-default (rowOf s i) 0 (omega (arith, row-long s i (R .valid .long) (R .agent))) in
-          ap (λ x. bit x (7 - c % 8)) none ∙ bit-zero (7 - c % 8));
-    }
+row-after {s} {m} {i} R c l =
+    by-less c (8 * rowSize s)
+    (λ h.
+    let past : c ≡ choresOf s + (c - choresOf s) = omega (arith, R .chores) in
+    ap (bitAt (rowOf s i)) past ∙ R .valid .padding i (c - choresOf s) (R .agent) (omega (arith, R .chores)))
+    (λ h.
+    let none : getD (rowOf s i) (c / 8) 0 ≡ 0 = List·getD-eq-default (rowOf s i) 0 (omega (arith, row-long s i (R .valid .long) (R .agent))) in
+    ap (λ x. bit x (7 - c % 8)) none ∙ bit-zero (7 - c % 8))
+
+pub row-size : {s : List ℕ} {m i : ℕ} → RowInSheet s m i → length (rowOf s i) ≡ bytesFor m
+row-size {s} {i = i} R = rw (R .chores) (row-long s i (R .valid .long) (R .agent))
 
 pub joined-packs : (first second : List ℕ) (i : ℕ) → joinedRow first second i ≡ bothRows (rowOf first i) (choresOf first) (rowOf second i) (choresOf second)
 unfolding joinedRow joinedChores joinedMark rowsMark isDifficult

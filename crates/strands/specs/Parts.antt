@@ -1,16 +1,18 @@
--- What the functions over two strands are given, and the bits of the bytes that they make.
-use Prim.Native.Nat.{ℕ, _+_, _*_, _-_, _≤_, _<_}
-use mathlib.Core.Bool.{Bool, false, cond, _&&_}
-use mathlib.Core.List.{List}
+-- What the functions over two strands are given, and the bytes that they make.
+use Prim.Native.Nat.{ℕ, _+_, _*_, _-_, _/_, _%_, _^_, _≤_}
+use mathlib.Core.Bool.{Bool, false, cond}
+use mathlib.Core.List.{List, _∷_}
 use mathlib.Core.Path.{_≡_}
-use lib.Dec.{leb, ltb}
-use lib.ListN.{length}
-use Rattle.finite.specs.Bits.{bit}
+use lib.Dec.{ltb}
+use lib.ListN.{length, getD}
+use lib.Seq.{sets}
+use Rattle.finite.specs.Lists.{tabulate}
 use Rattle.finite.specs.Packed.{bitAt, bytesFor, packed}
 use Rattle.model.specs.Limits.{maxChores}
 use Rattle.model.specs.Sheet.{headerSize}
 use Rattle.model.specs.Strands.{joinedSheet}
 use Rattle.sheet.specs.Valid.{Joinable}
+use Rattle.sheet.specs.Readers.{Read}
 
 -- both headers are there
 pub record Headers (first second : List ℕ) : Type 0 where
@@ -22,14 +24,18 @@ pub record Room (first second joined : List ℕ) : Type 0 where
   pub joinable : Joinable first second
   pub room : length (joinedSheet first second) ≤ length joined
 
--- r is byte k of some bits
-pub record ByteOf (t : ℕ → Bool) (k r : ℕ) : Type 0 where
-  pub below : r < 256
-  pub bits : (j : ℕ) → j < 8 → bit r (7 - j) ≡ t (8 * k + j)
+-- of two bytes the eight bits that begin so many before the second
+abbrev pub movedByte : ℕ → ℕ → ℕ → ℕ
+movedByte high low shift = (256 * high + low) / 2 ^ shift % 256
 
--- bit c of a row that is moved to the right by so many bits
-unfoldable pub movedBit : List ℕ → ℕ → ℕ → Bool
-movedBit row by c = leb by c && bitAt row (c - by)
+-- a row moved to the right by so many bits, as many bytes as it has: the lowest bits of `before` come first
+unfoldable pub movedBytes : ℕ → List ℕ → ℕ → List ℕ
+movedBytes before row shift = tabulate (length row) (λ k. movedByte (getD (before ∷ row) k 0) (getD row k 0) shift)
+
+-- it is written from at on, and the row's last byte told, whose last bits are not there yet
+pub record Moved (before : ℕ) (row : List ℕ) (shift : ℕ) (joined : List ℕ) (at : ℕ) (joined′ : List ℕ) (r : ℕ) : Type 0 where
+  pub made : joined′ ≡ sets joined at (movedBytes before row shift)
+  pub last : Read (getD (before ∷ row) (length row) 0) 256 r
 
 -- mark c of two rows, the second's marks after the m of the first
 unfoldable pub rowsMark : List ℕ → ℕ → List ℕ → ℕ → Bool
@@ -39,13 +45,11 @@ rowsMark row₁ m row₂ c = cond (ltb c m) (bitAt row₁ c) (bitAt row₂ (c - 
 abbrev pub bothRows : List ℕ → ℕ → List ℕ → ℕ → List ℕ
 bothRows row₁ m₁ row₂ m₂ = packed (m₁ + m₂) (rowsMark row₁ m₁ row₂)
 
--- a row of m marks: no bit after them is set
-pub record Ends (row : List ℕ) (m : ℕ) : Type 0 where
-  pub after : (c : ℕ) → m ≤ c → bitAt row c ≡ false
-
--- two rows, and room from at on for the row that they make
+-- two such rows, and room from at on for the row that they make
 pub record RowsLent (row₁ : List ℕ) (m₁ : ℕ) (row₂ : List ℕ) (m₂ : ℕ) (joined : List ℕ) (at : ℕ) : Type 0 where
-  pub first : Ends row₁ m₁
-  pub second : Ends row₂ m₂
+  pub long₁ : length row₁ ≡ bytesFor m₁
+  pub long₂ : length row₂ ≡ bytesFor m₂
+  -- no bit after the second's marks is set
+  pub after : (c : ℕ) → m₂ ≤ c → bitAt row₂ c ≡ false
   pub few : m₁ + m₂ ≤ maxChores
   pub room : at + bytesFor (m₁ + m₂) ≤ length joined

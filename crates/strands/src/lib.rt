@@ -1,7 +1,7 @@
 // Two strands: whether their sheets can be joined, the sheet that they make, and an agent's marks out of the sheet that holds a chore.
 
 ghost use mathlib.Core.Path.{_≡_};
-ghost use Prim.Native.Nat.{_/_, _%_, _≤_, _<_};
+ghost use Prim.Native.Nat.{_+_, _/_, _%_, _≤_, _<_};
 ghost use mathlib.Core.List.{_∷_};
 ghost use lib.ListN.{length, getD, take, drop};
 ghost use lib.Seq.{sets};
@@ -11,7 +11,7 @@ ghost use Rattle.model.specs.Refusals.{strandsRefusal, joinRefusal, showRefusal
 ghost use Rattle.model.specs.Promises.{SheetsJoined, MarksShown};
 ghost use Rattle.sheet.specs.Valid.{Joinable};
 ghost use Rattle.sheet.specs.Readers.{Read};
-ghost use Rattle.strands.specs.Parts.{Headers, Room, ByteOf, movedBit, rowsMark, bothRows, Ends, RowsLent};
+ghost use Rattle.strands.specs.Parts.{Headers, Room, movedByte, Moved, bothRows, RowsLent};
 
 fn agree(first: &[u8], second: &[u8]) -> bool
     requires { ⌜ Headers (now first) (now second) ⌝ }
@@ -73,7 +73,7 @@ pub fn show_refusal<'a>(first: &'a [u8], second: &'a [u8], person: usize, chore:
     sheet::or_else(refusal, sheet::when(9, sheet::out_of_range(chore, m)))
 }
 
-// A row's byte, or 0 where it has none.
+// A row's byte, or 0 after its end.
 fn row_byte(row: &[u8], k: usize) -> u32
     ensures { λ r. ⌜ Read (getD (now (row .entry)) k 0) 256 r ⌝ }
 {
@@ -83,46 +83,57 @@ fn row_byte(row: &[u8], k: usize) -> u32
     0
 }
 
-// The byte before it, or 0 at the start.
-fn byte_before(row: &[u8], k: usize) -> u32
-    ensures { λ r. ⌜ Read (getD (0 ∷ now (row .entry)) k 0) 256 r ⌝ }
+fn copy_bytes(row: &[u8], count: usize, joined: &mut [u8], at: usize)
+    requires { ⌜ count ≤ length (now row) ⌝ }
+    requires { ⌜ at + count ≤ length (now joined) ⌝ }
+    ensures { λ _. ⌜ now (joined .exit) ≡ sets (now (joined .entry)) at (take count (now (row .entry))) ⌝ }
 {
-    if k == 0 {
-        return 0;
+    let mut k = 0;
+    while k < count {
+        joined[at + k] = row[k];
+        k += 1;
     }
-    row_byte(row, k - 1)
 }
 
-// Byte k of a row that is moved to the right by so many bits.
-fn moved_byte(row: &[u8], by: usize, k: usize) -> u32
-    ensures { λ r. ⌜ ByteOf (movedBit (now (row .entry)) by) k r ⌝ }
+// Of two bytes the eight bits that begin so many before the second.
+fn moved_byte(high: u32, low: u32, shift: usize) -> u8
+    requires { ⌜ (high < 256) × (low < 256) × (shift < 8) ⌝ }
+    ensures { λ r. ⌜ r ≡ movedByte high low shift ⌝ }
 {
-    let begin = by / 8;
-    if k < begin {
-        return 0;
+    (((256 * high + low) >> shift) % 256) as u8
+}
+
+// A row moved to the right by less than a byte, with the bits before it. Returns its last byte, the end of which is not written.
+fn move_bytes(before: u32, row: &[u8], shift: usize, joined: &mut [u8], at: usize) -> u32
+    requires { ⌜ (before < 256) × (shift < 8) ⌝ }
+    requires { ⌜ at + length (now row) ≤ length (now joined) ⌝ }
+    ensures { λ r. ⌜ Moved before (now (row .entry)) shift (now (joined .entry)) at (now (joined .exit)) r ⌝ }
+{
+    let mut high = before;
+    let mut k = 0;
+    while k < row.len() {
+        let low = sheet::byte_at(row, k);
+        joined[at + k] = moved_byte(high, low, shift);
+        high = low;
+        k += 1;
     }
-    let pair = 256 * byte_before(row, k - begin) + row_byte(row, k - begin);
-    (pair >> (by % 8)) % 256
+    high
 }
 
-// Byte k of the row that two rows make: the second's marks follow the m of the first at the bit.
-fn joined_byte(row1: &[u8], m: usize, row2: &[u8], k: usize) -> u8
-    requires { ⌜ Ends (now row1) m ⌝ }
-    ensures { λ r. ⌜ ByteOf (rowsMark (now (row1 .entry)) m (now (row2 .entry))) k r ⌝ }
-{
-    (row_byte(row1, k) | moved_byte(row2, m, k)) as u8
-}
-
-// The one place where marks go from a sheet to another: those of an agent, out of both its rows.
+// The one place where marks go from a sheet to another: those of an agent, out of both its rows. The first's whole bytes are copied; the seam
+// lies anywhere in a byte, so that the second's are moved to it, and may need a byte more.
 fn write_row(row1: &[u8], m1: usize, row2: &[u8], m2: usize, joined: &mut [u8], at: usize)
     requires { ⌜ RowsLent (now row1) m1 (now row2) m2 (now joined) at ⌝ }
     ensures { λ _. ⌜ now (joined .exit) ≡ sets (now (joined .entry)) at (bothRows (now (row1 .entry)) m1 (now (row2 .entry)) m2) ⌝ }
 {
-    let size = sheet::row_size(m1 + m2);
-    let mut k = 0;
-    while k < size {
-        joined[at + k] = joined_byte(row1, m1, row2, k);
-        k += 1;
+    let whole = m1 / 8;
+    let shift = m1 % 8;
+    copy_bytes(row1, whole, joined, at);
+    let seam = row_byte(row1, whole) >> (8 - shift);
+    let last = move_bytes(seam, row2, shift, joined, at + whole);
+    let end = whole + row2.len();
+    if end < sheet::row_size(m1 + m2) {
+        joined[at + end] = moved_byte(last, 0, shift);
     }
 }
 
