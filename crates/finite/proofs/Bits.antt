@@ -125,7 +125,7 @@ shift-one {i} {w} l = ap (λ v. v % 2 ^ w) (one-mul (2 ^ i)) ∙ mod-eq-of-lt (p
 
 -- sets of numbers as words
 
-pub or-false : (b : Bool) → b || false ≡ b
+or-false : (b : Bool) → b || false ≡ b
 or-false true = refl
 or-false false = refl
 

@@ -1,4 +1,5 @@
 pub mod Refusals
+pub mod Filling
 pub mod Rows
 pub mod Joining
 pub mod Showing

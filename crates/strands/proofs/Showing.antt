@@ -10,7 +10,7 @@ use borrow.Author.Tests.{eq-eqb, ne-eqb}
 use Rattle.finite.specs.Packed.{bitAt}
 use Rattle.finite.proofs.Tests.{by-test, by-cond}
 use Rattle.model.specs.Sheet.{agentsOf, choresOf, rowOf, isDifficult}
-use Rattle.model.specs.Strands.{joinedSheet, inFirst, strandSheet, strandMarks, strandBegin, OnJoined}
+use Rattle.model.specs.Strands.{joinedSheet, inFirst, strandSheet, strandMarks, strandBegin}
 use Rattle.model.specs.Refusals.{showRefusal}
 use Rattle.model.specs.Promises.{shownMarks, MarksShown}
 use Rattle.sheet.specs.Valid.{Valid, Joinable}

@@ -24,7 +24,7 @@ pub record Room (first second joined : List ℕ) : Type 0 where
   pub joinable : Joinable first second
   pub room : length (joinedSheet first second) ≤ length joined
 
--- of two bytes the eight bits that begin so many before the second
+-- eight bits out of two bytes: they begin so many before the second
 abbrev pub movedByte : ℕ → ℕ → ℕ → ℕ
 movedByte high low shift = (256 * high + low) / 2 ^ shift % 256
 
@@ -32,10 +32,14 @@ movedByte high low shift = (256 * high + low) / 2 ^ shift % 256
 unfoldable pub movedBytes : ℕ → List ℕ → ℕ → List ℕ
 movedBytes before row shift = tabulate (length row) (λ k. movedByte (getD (before ∷ row) k 0) (getD row k 0) shift)
 
--- it is written from at on, and the row's last byte told, whose last bits are not there yet
+-- it is written from at on, and r is the last byte: its lowest bits are not written yet
 pub record Moved (before : ℕ) (row : List ℕ) (shift : ℕ) (joined : List ℕ) (at : ℕ) (joined′ : List ℕ) (r : ℕ) : Type 0 where
   pub made : joined′ ≡ sets joined at (movedBytes before row shift)
   pub last : Read (getD (before ∷ row) (length row) 0) 256 r
+
+-- the marks of a row of m that come after its last whole byte, as the lowest bits of a byte
+abbrev pub seamBits : List ℕ → ℕ → ℕ
+seamBits row m = getD row (m / 8) 0 / 2 ^ (8 - m % 8)
 
 -- mark c of two rows, the second's marks after the m of the first
 unfoldable pub rowsMark : List ℕ → ℕ → List ℕ → ℕ → Bool

@@ -3,15 +3,16 @@
 ghost use mathlib.Core.Path.{_≡_};
 ghost use Prim.Native.Nat.{_+_, _/_, _%_, _≤_, _<_};
 ghost use mathlib.Core.List.{_∷_};
-ghost use lib.ListN.{length, getD, take, drop};
+ghost use lib.ListN.{length, take, drop};
 ghost use lib.Seq.{sets};
+ghost use Rattle.finite.specs.Packed.{bytesFor};
 ghost use Rattle.model.specs.Sheet.{headerSize, agentsOf};
 ghost use Rattle.model.specs.Strands.{agree, joinedChores, joinedRows, joinedSheet, inFirst, strandOf, strandSheet};
 ghost use Rattle.model.specs.Refusals.{strandsRefusal, joinRefusal, showRefusal};
 ghost use Rattle.model.specs.Promises.{SheetsJoined, MarksShown};
 ghost use Rattle.sheet.specs.Valid.{Joinable};
 ghost use Rattle.sheet.specs.Readers.{Read};
-ghost use Rattle.strands.specs.Parts.{Headers, Room, movedByte, Moved, bothRows, RowsLent};
+ghost use Rattle.strands.specs.Parts.{Headers, Room, movedByte, Moved, seamBits, bothRows, RowsLent};
 
 fn agree(first: &[u8], second: &[u8]) -> bool
     requires { ⌜ Headers (now first) (now second) ⌝ }
@@ -73,16 +74,7 @@ pub fn show_refusal<'a>(first: &'a [u8], second: &'a [u8], person: usize, chore:
     sheet::or_else(refusal, sheet::when(9, sheet::out_of_range(chore, m)))
 }
 
-// A row's byte, or 0 after its end.
-fn row_byte(row: &[u8], k: usize) -> u32
-    ensures { λ r. ⌜ Read (getD (now (row .entry)) k 0) 256 r ⌝ }
-{
-    if k < row.len() {
-        return sheet::byte_at(row, k);
-    }
-    0
-}
-
+// The first bytes of a row, as they are.
 fn copy_bytes(row: &[u8], count: usize, joined: &mut [u8], at: usize)
     requires { ⌜ count ≤ length (now row) ⌝ }
     requires { ⌜ at + count ≤ length (now joined) ⌝ }
@@ -95,7 +87,19 @@ fn copy_bytes(row: &[u8], count: usize, joined: &mut [u8], at: usize)
     }
 }
 
-// Of two bytes the eight bits that begin so many before the second.
+// The marks after a row's last whole byte, as the lowest bits of a byte.
+fn seam_bits(row: &[u8], m: usize) -> u32
+    requires { ⌜ length (now row) ≡ bytesFor m ⌝ }
+    ensures { λ r. ⌜ Read (seamBits (now (row .entry)) m) 256 r ⌝ }
+{
+    let rest = m % 8;
+    if rest == 0 {
+        return 0;
+    }
+    sheet::byte_at(row, m / 8) >> (8 - rest)
+}
+
+// Eight bits out of two bytes: they begin `shift` before the second.
 fn moved_byte(high: u32, low: u32, shift: usize) -> u8
     requires { ⌜ (high < 256) × (low < 256) × (shift < 8) ⌝ }
     ensures { λ r. ⌜ r ≡ movedByte high low shift ⌝ }
@@ -103,7 +107,7 @@ fn moved_byte(high: u32, low: u32, shift: usize) -> u8
     (((256 * high + low) >> shift) % 256) as u8
 }
 
-// A row moved to the right by less than a byte, with the bits before it. Returns its last byte, the end of which is not written.
+// A row moved to the right by less than a byte, after the lowest bits of `before`. Returns its last byte, whose lowest bits are not written yet.
 fn move_bytes(before: u32, row: &[u8], shift: usize, joined: &mut [u8], at: usize) -> u32
     requires { ⌜ (before < 256) × (shift < 8) ⌝ }
     requires { ⌜ at + length (now row) ≤ length (now joined) ⌝ }
@@ -120,8 +124,8 @@ fn move_bytes(before: u32, row: &[u8], shift: usize, joined: &mut [u8], at: usiz
     high
 }
 
-// The one place where marks go from a sheet to another: those of an agent, out of both its rows. The first's whole bytes are copied; the seam
-// lies anywhere in a byte, so that the second's are moved to it, and may need a byte more.
+// The one place where marks go from a sheet to another: those of an agent, out of both its rows. The first's whole bytes are copied, and the
+// second's moved to the seam, which lies anywhere in a byte; what is left of their last may need a byte more.
 fn write_row(row1: &[u8], m1: usize, row2: &[u8], m2: usize, joined: &mut [u8], at: usize)
     requires { ⌜ RowsLent (now row1) m1 (now row2) m2 (now joined) at ⌝ }
     ensures { λ _. ⌜ now (joined .exit) ≡ sets (now (joined .entry)) at (bothRows (now (row1 .entry)) m1 (now (row2 .entry)) m2) ⌝ }
@@ -129,8 +133,7 @@ fn write_row(row1: &[u8], m1: usize, row2: &[u8], m2: usize, joined: &mut [u8], 
     let whole = m1 / 8;
     let shift = m1 % 8;
     copy_bytes(row1, whole, joined, at);
-    let seam = row_byte(row1, whole) >> (8 - shift);
-    let last = move_bytes(seam, row2, shift, joined, at + whole);
+    let last = move_bytes(seam_bits(row1, m1), row2, shift, joined, at + whole);
     let end = whole + row2.len();
     if end < sheet::row_size(m1 + m2) {
         joined[at + end] = moved_byte(last, 0, shift);

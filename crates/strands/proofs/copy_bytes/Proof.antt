@@ -5,7 +5,7 @@ use native.Mathlib.Omega.{arith}
 use lib.ListN.{length, take}
 use lib.Seq.{length-take-le, getD-take}
 use borrow.Author.Needs.{needs}
-use Rattle.strands.proofs.Joining.{Filling, fill-zero, fill-sized, fill-next, fill-end}
+use Rattle.strands.proofs.Filling.{Filling, fill-zero, fill-sized, fill-next, fill-end}
 use Rattle.strands.proofs.copy_bytes.Statement.{statement}
 use Rattle.strands.proofs.copy_bytes.Tie as tie
 

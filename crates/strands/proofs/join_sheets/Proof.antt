@@ -1,5 +1,4 @@
 -- `strands::join_sheets` meets its contract: nothing is written before nothing can be refused any more.
-use Prim.Native.Nat.{_≤_}
 use mathlib.Core.Path.{_≡_, sym, _∙_}
 use native.Mathlib.Omega.{arith}
 use lib.ListN.{length}

@@ -1,7 +1,6 @@
 -- `strands::joined_size` meets its contract: a row after the last would start there.
 use mathlib.Core.Path.{sym, _∙_}
 use native.Mathlib.Omega.{arith}
-use borrow.Author.Needs.{needs}
 use Rattle.sheet.proofs.Strands.{joined-long}
 use Rattle.strands.proofs.Refusals.{joinable-headers}
 use Rattle.strands.proofs.joined_size.Statement.{statement}

@@ -3,7 +3,7 @@ use Prim.Native.Nat.{_-_}
 use native.Mathlib.Omega.{arith}
 use lib.ListN.{length}
 use borrow.Author.Needs.{needs}
-use Rattle.strands.proofs.Joining.{fill-sized, Moving, move-zero, move-next, move-end}
+use Rattle.strands.proofs.Filling.{fill-sized, Moving, move-zero, move-next, move-end}
 use Rattle.strands.proofs.move_bytes.Statement.{statement}
 use Rattle.strands.proofs.move_bytes.Tie as tie
 
@@ -20,7 +20,7 @@ byte-at-requires : tie.Need-byte-at-requires Inv-loop μ-loop
 byte-at-requires c κs = search needs
 
 moved-byte-requires : tie.Need-moved-byte-requires Inv-loop μ-loop
-moved-byte-requires c κs = (c .before .before .loop .inv .carried .below, c .byte-at .ensures .below, c .before .before .before .before .before .pre .0 .1)
+moved-byte-requires c κs = search needs
 
 add-joined : tie.Need-add-joined Inv-loop μ-loop
 add-joined c = search needs

@@ -1,38 +1,25 @@
 -- `strands::write_row` meets its contract: three parts of the row that both make, one after the other.
-use Prim.Native.Nat.{_+_, _-_, _/_, _%_, _^_}
-use mathlib.Core.Path.{_≡_, ap}
+use Prim.Native.Nat.{_+_, _/_}
 use native.Mathlib.Omega.{arith}
-use lib.ListN.{length, getD, length-set}
-use lib.Pow.{shr-le}
+use lib.ListN.{length, length-set}
 use borrow.Author.Needs.{needs}
 use Rattle.strands.specs.Parts.{bothRows}
-use Rattle.strands.proofs.Joining.{Filling, row-copied, row-moved, row-ended, row-done}
+use Rattle.strands.proofs.Filling.{Filling}
+use Rattle.strands.proofs.Rows.{row-copied, row-moved, row-ended, row-done}
 use Rattle.strands.proofs.write_row.Statement.{statement}
 use Rattle.strands.proofs.write_row.Tie as tie
 
 copy-bytes-requires : tie.Need-copy-bytes-requires
 copy-bytes-requires c κs = search needs
 
-row-byte-requires : tie.Need-row-byte-requires
-row-byte-requires c κs = search needs
-
-sub-seam : tie.Need-sub-seam
-sub-seam c = search needs
-
-cast-seam : tie.Need-cast-seam
-cast-seam c = search needs
-
-shr-seam : tie.Need-shr-seam
-shr-seam c = search needs
+seam-bits-requires : tie.Need-seam-bits-requires
+seam-bits-requires c κs = search needs
 
 add-move-bytes : tie.Need-add-move-bytes
 add-move-bytes c = search needs
 
 move-bytes-requires : tie.Need-move-bytes-requires
-move-bytes-requires c κs =
-    let byte = c .before .row-byte in
-    let small = shr-le (byte .result) (8 - c .before .before .before .before .before .before .before .before .before .args .m1 % 8) in
-    ((omega (arith, small, byte .ensures .below), omega arith), search needs)
+move-bytes-requires c κs = search needs
 
 add-end : tie.Need-add-end
 add-end c = search needs
@@ -49,15 +36,11 @@ start c = c .before .before .before .before .before .before .before .before .bef
 abbrev moved : tie.After-row-size → tie.After-move-bytes
 moved c = c .before .before .before
 
--- what the last bits before the seam are
-seam : (c : tie.After-row-size) → moved c .before .before .row-byte .result / 2 ^ (8 - start c .args .m1 % 8) ≡ getD (start c .args .row1 .now) (start c .args .m1 / 8) 0 / 2 ^ (8 - start c .args .m1 % 8)
-seam c = ap (λ x. x / 2 ^ (8 - start c .args .m1 % 8)) (moved c .before .before .row-byte .ensures .is)
-
--- both parts are written
+-- the row is there as far as both have bytes
 written : (c : tie.After-row-size) → Filling (bothRows (start c .args .row1 .now) (start c .args .m1) (start c .args .row2 .now) (start c .args .m2)) (start c .args .joined .now) (start c .args .at) (moved c .move-bytes .last .1 .1 .1 .0) (start c .args .m1 / 8 + length (start c .args .row2 .now))
 written c =
     let known = c .before .before .before .before .before .before .before .before .before .before .before in
-    row-moved (start c .pre) (moved c .move-bytes .ensures) (seam c) (λ k. known .shared-slice-known2 .given k .fits)
+    row-moved (start c .pre) (moved c .move-bytes .ensures) (moved c .before .before .seam-bits .ensures .is) (λ k. known .shared-slice-known2 .given k .fits)
     (row-copied (start c .pre) (λ k. known .before .shared-slice-known .given k .fits) (moved c .before .before .before .before .before .copy-bytes .ensures))
 
 moved-byte-requires : tie.Need-moved-byte-requires
@@ -75,7 +58,7 @@ same-length c = simp length-set (search needs)
 returns : tie.Need-returns
 returns c =
     let sized = c .before .before in
-    row-ended (start sized .pre) (moved sized .move-bytes .ensures) (seam sized) (written sized) (omega (arith, c .before .if1 .taken, sized .row-size .ensures)) (c .moved-byte .ensures)
+    row-ended (start sized .pre) (moved sized .move-bytes .ensures) (moved sized .before .before .seam-bits .ensures .is) (written sized) (omega (arith, c .before .if1 .taken, sized .row-size .ensures)) (c .moved-byte .ensures)
 
 same-length-2 : tie.Need-same-length-2
 same-length-2 c = search needs
@@ -89,10 +72,7 @@ write-row-spec =
     tie.close
     (tie.spec
     copy-bytes-requires
-    row-byte-requires
-    sub-seam
-    cast-seam
-    shr-seam
+    seam-bits-requires
     add-move-bytes
     move-bytes-requires
     add-end
