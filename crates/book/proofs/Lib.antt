@@ -1,5 +1,5 @@
-pub mod Finals
 pub mod Results
+pub mod Finals
 pub mod Rest
 pub mod Stretches
 pub mod Passed

@@ -4,7 +4,7 @@ use Prim.Native.Nat.{ℕ, _+_, _≤_, _<_, zero-le}
 use mathlib.Core.Bool.{cond}
 use mathlib.Core.List.{List}
 use mathlib.Core.Path.{_≡_, refl, sym, ap, _∙_}
-use native.Mathlib.Nat.{le-of-lt}
+use native.Mathlib.Nat.{one-mul, le-of-lt}
 use native.Mathlib.Omega.{arith}
 use lib.Dec.{eqb, ltb}
 use lib.ListN.{length, set, length-set}
@@ -22,18 +22,19 @@ use Rattle.model.specs.Algorithm.{State}
 use Rattle.model.specs.MostMoves.{mostEver}
 use Rattle.model.specs.Refusals.{sheetRefusal}
 use Rattle.model.specs.Replies.{absent, sheetReply, replyAt}
-use Rattle.model.specs.Book.{ownRefusal, takesSheet, entriesOf, firstEntry, sheetAnswer, longList, overAccepted, tallyOf, mostInBook}
-use Rattle.model.specs.Promises.{entryAt, BookSharedOut}
-use Rattle.sheet.proofs.Refusal.{valid}
+use Rattle.model.specs.Book.{ownRefusal, takesSheet, firstEntry, sheetAnswer, longList, overAccepted, tallyOf, mostInBook}
+use Rattle.model.specs.Promises.{entryAt}
 use Rattle.allocation.specs.Final.{accepts, finalOf}
-use Rattle.allocation.proofs.Final.{accepted, final-demand3, final-few, owners-long, prices-long, few-moves, few-cuts}
+use Rattle.allocation.proofs.Final.{accepted, final-demand3, final-few, few-moves, few-cuts}
 use Rattle.tally.specs.Counting.{movesIn, cutsIn, Fitting, Counted}
+use Rattle.pricebytes.specs.PriceBytes.{pricesIn}
 use Rattle.book.specs.Said.{placed}
-use Rattle.book.specs.Finals.{finalsOf, answerOf}
-use Rattle.book.specs.Steps.{noEntries, Answered, Taken, Room, RestShared, Fine}
+use Rattle.book.specs.Finals.{finalsOf, ownerBytes, priceBytes}
+use Rattle.book.specs.Steps.{noEntries, Taken, Room, RestShared, Fine, SharedInBytes}
 use Rattle.book.specs.Passed.{told, counts, longAfter, Passed}
-use Rattle.book.proofs.Results.{none-at, reply-new, reply-kept, Parts, parts}
-use Rattle.book.proofs.Stretches.{entries-are, first-zero, first-next, first-few, long-zero, long-kept, long-next}
+use Rattle.book.proofs.Results.{none-at, reply-new, reply-kept, Parts}
+use Rattle.book.proofs.Finals.{owners-sized, prices-sized, answer-parts, taken}
+use Rattle.book.proofs.Stretches.{first-zero, first-next, first-few, first-fits, long-zero, long-kept, long-next, bytes-after}
 
 -- a bound of one more lets in one number more
 one-more : {j : ℕ} (i : ℕ) → (i ≡ j → ⊥) → ltb i j ≡ ltb i (j + 1)
@@ -65,68 +66,63 @@ module _ (book : List ℕ) where
         answers = λ i. none-at e i ∙ rw (le-ltb i 0 zero-le);
         moves = none .0 ∙ sym (sum-zero _);
         cuts = none .1 ∙ sym (sum-zero _);
-        ownersNow = long-zero book (λ x. x .owners) _;
-        pricesNow = long-zero book (λ x. x .prices) _;
+        ownersNow = long-zero book 1 ownerBytes _;
+        pricesNow = long-zero book 4 priceBytes _;
         scratchNow = refl;
       }
 
-  module _ {lentOwners lentPrices lentScratch owners prices scratch : List ℕ} {sheets : List SheetEntry} {total : Tally} {first j : ℕ} (F : Fine book lentOwners lentPrices lentScratch) (P : Passed book lentOwners lentPrices lentScratch owners prices scratch sheets total first j) where
+  module _ {lentOwners lentPrices lentScratch numbers owners prices scratch : List ℕ} {sheets : List SheetEntry} {total : Tally} {first j : ℕ} (F : Fine book lentOwners lentPrices lentScratch numbers) (P : Passed book lentOwners lentPrices lentScratch owners prices scratch sheets total first j) where
     reach : firstEntry book j ≤ bookEntries
-    reach = omega (arith, first-few book j, P .within, F .fits .sheetsFit)
+    reach = first-fits book (F .fits) j (P .within)
 
     pub owners-kept : length owners ≡ length lentOwners
-    owners-kept = ap length (P .ownersNow) ∙ long-kept book (λ x. x .owners) owners-long j lentOwners (omega (arith, reach, F .ownersFit))
+    owners-kept = ap length (P .ownersNow) ∙ long-kept book 1 ownerBytes owners-sized j lentOwners (omega (arith, reach, F .ownersFit))
 
     pub prices-kept : length prices ≡ length lentPrices
-    prices-kept = ap length (P .pricesNow) ∙ long-kept book (λ x. x .prices) prices-long j lentPrices (omega (arith, reach, F .pricesFit))
+    prices-kept = ap length (P .pricesNow) ∙ long-kept book 4 priceBytes prices-sized j lentPrices (omega (arith, reach, F .pricesFit))
 
     module _ (l : j < sheetCount book) where
-      pub room : Room first owners prices scratch
-      room =
+      pub room : {numbers′ : List ℕ} → length numbers′ ≡ length numbers → Room first owners prices scratch numbers′
+      room same =
           let last : first + maxChores ≤ bookEntries = omega (arith, first-few book j, P .firstFree, F .fits .sheetsFit) in
           record {
             ownersFit = omega (arith, owners-kept, F .ownersFit);
             pricesFit = omega (arith, prices-kept, F .pricesFit);
             scratchFits = rw (P .scratchNow) (F .scratchFits);
+            numbersFit = same ∙ F .numbersFit;
           }
 
       -- what the answer of sheet j says, and what follows of it
       module _ {sheet owners′ prices′ scratch′ : List ℕ} {out : ShareOut} (same : sheet ≡ sheetOf book j) (D : RestShared sheet first owners prices scratch owners′ prices′ scratch′ out) where
-        answer-parts : Parts out (accepts (sheetOf book j)) (finalsOf book j .moves) (finalsOf book j .cuts) (ownRefusal book j)
-        unfolding answerOf finalsOf ownRefusal
-        answer-parts = parts out (accepts (sheetOf book j)) (rw same at (D .answer))
-
-        pub answered : Answered sheet out
-        answered =
-            record {
-              header = λ e.
-                  let z = accepted (sheetOf book j) (sym (answer-parts .whether) ∙ e) in
-                  rw same (valid (sheetOf book j) z .header);
-            }
+        here : Parts out (accepts (sheetOf book j)) (finalsOf book j .moves) (finalsOf book j .cuts) (ownRefusal book j)
+        unfolding finalsOf ownRefusal
+        here = answer-parts (sheetOf book j) (rw same at (D .answer))
 
         pub fitting : Fitting total (movesIn out) (cutsIn out)
         unfolding counts
         fitting =
-            let p = answer-parts in
             let moved = counts-few (λ x. x .moves) mostEver few-moves in
             let cut = counts-few (λ x. x .cuts) maxAgents (λ s z. le-of-lt (few-cuts s z)) in
             let few : j < maxSheets = omega (arith, F .fits .sheetsFit) in
             record {
-              moves = omega (arith, P .moves, p .movesAre, moved j, sum-at-most j mostEver (λ i m. moved i));
-              cuts = omega (arith, P .cuts, p .cutsAre, cut j, sum-at-most j maxAgents (λ i m. cut i));
+              moves = omega (arith, P .moves, here .movesAre, moved j, sum-at-most j mostEver (λ i m. moved i));
+              cuts = omega (arith, P .cuts, here .cutsAre, cut j, sum-at-most j maxAgents (λ i m. cut i));
             }
 
         module _ {n : ℕ} (T : Taken sheet out n) where
-          taken : n ≡ entriesOf book j
-          taken = T .is ∙ rw (answer-parts .whether, same, entries-are book j)
+          next-free : first + n ≡ firstEntry book (j + 1)
+          next-free = rw (first-next book j, P .firstFree, taken sheet (D .answer) T, same)
+
+          next-fits : firstEntry book (j + 1) ≤ bookEntries
+          next-fits = first-fits book (F .fits) (j + 1) (omega arith)
 
           pub still-fits : first + n ≤ bookEntries
-          still-fits = omega (arith, P .firstFree, taken, first-next book j, first-few book (j + 1), F .fits .sheetsFit)
+          still-fits = rw next-free next-fits
 
           module _ (new : SheetEntry) {total′ : Tally} (E : sheetReply (new .result) ≡ placed first out) (C : Counted total (movesIn out) (cutsIn out) total′) where
             told-now : sheetReply (new .result) ≡ told book j
             unfolding told
-            told-now = E ∙ answer-parts .place first ∙ rw (P .firstFree)
+            told-now = E ∙ here .place first ∙ rw (P .firstFree)
 
             replies : (i : ℕ) → replyAt (set sheets j new) i ≡ cond (ltb i (j + 1)) (told book i) absent
             replies i =
@@ -137,35 +133,38 @@ module _ (book : List ℕ) where
             pub onward : Passed book lentOwners lentPrices lentScratch owners′ prices′ scratch′ (set sheets j new) total′ (first + n) (j + 1)
             unfolding counts
             onward =
-                let p = answer-parts in
-                let far : firstEntry book j + entriesOf book j ≤ bookEntries = omega (arith, still-fits, taken, P .firstFree) in
                 record {
                   within = omega arith;
-                  firstFree = rw (first-next book j, P .firstFree, taken);
+                  firstFree = next-free;
                   size = simp length-set (P .size);
                   answers = replies;
-                  moves = C .moves ∙ rw (P .moves, p .movesAre, sum-next);
-                  cuts = C .cuts ∙ rw (P .cuts, p .cutsAre, sum-next);
-                  ownersNow = D .ownersAfter ∙ rw (P .ownersNow, P .firstFree, same) (long-next book (λ x. x .owners) owners-long j lentOwners (omega (arith, far, F .ownersFit)));
-                  pricesNow = D .pricesAfter ∙ rw (P .pricesNow, P .firstFree, same) (long-next book (λ x. x .prices) prices-long j lentPrices (omega (arith, far, F .pricesFit)));
+                  moves = C .moves ∙ rw (P .moves, here .movesAre, sum-next);
+                  cuts = C .cuts ∙ rw (P .cuts, here .cutsAre, sum-next);
+                  ownersNow = D .ownersAfter ∙ rw (P .ownersNow, P .firstFree, same) (rw one-mul at (long-next book 1 ownerBytes owners-sized j lentOwners (omega (arith, next-fits, F .ownersFit))));
+                  pricesNow = D .pricesAfter ∙ rw (P .pricesNow, P .firstFree, same) (long-next book 4 priceBytes prices-sized j lentPrices (omega (arith, next-fits, F .pricesFit)));
                   scratchNow = D .zeros (rw (P .scratchNow) (F .cleared)) ∙ P .scratchNow;
                 }
 
     -- when all sheets have passed
-    pub finish : j ≡ sheetCount book → (k : ℕ) → k ≡ sheetCount book → BookSharedOut book lentOwners lentPrices lentScratch owners prices scratch (record { refusal = 0; count = k; sheets = sheets; tally = total })
+    pub finish : j ≡ sheetCount book → (k : ℕ) → k ≡ sheetCount book → SharedInBytes book lentOwners lentPrices lentScratch owners prices scratch (record { refusal = 0; count = k; sheets = sheets; tally = total })
     unfolding entryAt sheetAnswer longList overAccepted tallyOf takesSheet ownRefusal accepts told counts longAfter finalsOf
     finish e k counted =
         record {
-          finals = finalsOf book;
-          demand3 = λ i l t. final-demand3 (sheetOf book i) (eqb-true (sheetRefusal (sheetOf book i)) 0 t);
-          few = λ i l t. final-few (sheetOf book i) (eqb-true (sheetRefusal (sheetOf book i)) 0 t);
-          fewInAll = omega (arith, rw e at (P .moves), tally-few);
-          refusal = refl;
-          count = counted;
-          answers = rw e at (P .answers);
-          moves = rw e at (P .moves);
-          cuts = rw e at (P .cuts);
-          ownersAtExit = rw e at (P .ownersNow);
-          pricesAtExit = rw e at (P .pricesNow);
-          zeros = P .scratchNow ∙ F .cleared;
+          numbers = longList book (finalsOf book) (λ x. x .prices) (pricesIn lentPrices);
+          shared =
+              record {
+                finals = finalsOf book;
+                demand3 = λ i l t. final-demand3 (sheetOf book i) (eqb-true (sheetRefusal (sheetOf book i)) 0 t);
+                few = λ i l t. final-few (sheetOf book i) (eqb-true (sheetRefusal (sheetOf book i)) 0 t);
+                fewInAll = omega (arith, rw e at (P .moves), tally-few);
+                refusal = refl;
+                count = counted;
+                answers = rw e at (P .answers);
+                moves = rw e at (P .moves);
+                cuts = rw e at (P .cuts);
+                ownersAtExit = rw (e, one-mul) at (P .ownersNow);
+                pricesAtExit = refl;
+                zeros = P .scratchNow ∙ F .cleared;
+              };
+          bytes = rw e at (P .pricesNow) ∙ bytes-after book (sheetCount book) lentPrices;
         }

@@ -1,27 +1,27 @@
 -- The rest of a list, lent from its middle: what the share-out of a sheet leaves in the whole of it.
 -- Assumes nothing.
-use Prim.Native.Nat.{ℕ, _+_, _-_, _≤_}
+use Prim.Native.Nat.{ℕ, _+_, _-_, _*_, _≤_}
 use mathlib.Core.List.{List, _++_}
-use mathlib.Core.Path.{_≡_, sym, ap, _∙_}
+use mathlib.Core.Path.{_≡_, refl, sym, ap, _∙_}
 use native.Mathlib.Omega.{arith}
-use lib.ListN.{length, take, drop, length-drop}
-use lib.Seq.{sets}
+use lib.ListN.{length, take, drop, replicate, length-drop}
 use Rattle.finite.proofs.Below.{by-same}
 use Rattle.finite.proofs.Lists.{rest-whole, rest-back}
 use Rattle.model.specs.declared.ShareOut.{ShareOut}
 use Rattle.model.specs.Limits.{maxChores, scratchSize}
-use Rattle.model.specs.Sheet.{choresOf}
 use Rattle.model.specs.Algorithm.{State}
 use Rattle.model.specs.Refusals.{sheetRefusal, allocateRefusal}
-use Rattle.model.specs.Replies.{refused, shared}
+use Rattle.model.specs.Replies.{refused, shared, shareOutReply}
 use Rattle.model.specs.Promises.{Allocated}
 use Rattle.sheet.proofs.Refusal.{valid, lent-ok}
 use Rattle.sheet.proofs.OrElse.{or-else-next, or-else-first, or-else-none}
-use Rattle.allocation.specs.Final.{finalOf}
-use Rattle.allocation.proofs.Final.{final-demand3, owners-long, prices-long}
-use Rattle.book.specs.Finals.{writtenOf}
-use Rattle.book.specs.Steps.{Room, RestShared}
-use Rattle.book.proofs.Finals.{answer-shared, written-shared, answer-refused, written-refused}
+use Rattle.allocation.proofs.Final.{final-demand3}
+use Rattle.pricebytes.specs.PriceBytes.{bytesOf, withPrices}
+use Rattle.pricebytes.specs.PriceBytes as pricebytes
+use Rattle.pricebytes.proofs.Writing.{with-first, with-rest}
+use Rattle.book.specs.Finals.{ownerBytes, priceBytes, entriesIn, answerOf, writtenOf}
+use Rattle.book.specs.Steps.{Answered, Taken, Room, RestShared}
+use Rattle.book.proofs.Finals.{answer-shared, entries-shared, written-shared, owners-sized, prices-sized, answer-refused, entries-refused, written-refused, entries-few, bytes-written, answered, taken, written-long}
 
 -- a list whose rest from a on was lent, and is back as ys
 abbrev pub handedBack : List ℕ → ℕ → List ℕ → List ℕ
@@ -38,50 +38,79 @@ module _ (s : List ℕ) (owners prices scratch : ℕ) (o : maxChores ≤ owners)
       or-else-next _ z ∙ or-else-none (lent-ok (omega (arith, few))) (or-else-none (lent-ok (omega (arith, few))) (lent-ok c)) ∙ sym z)
       (λ h. or-else-first _ h)
 
--- one of the lists, at what `written` says of the final state
-module _ (s : List ℕ) (first : ℕ) (written : State → List ℕ) (xs ys : List ℕ) (room : first + maxChores ≤ length xs) where
-  back-shared : (z : sheetRefusal s ≡ 0) (x : State) → x ≡ finalOf s → length (written (finalOf s)) ≡ choresOf s → take (choresOf s) ys ≡ written x → drop (choresOf s) ys ≡ drop (choresOf s) (drop first xs) → handedBack xs first ys ≡ sets xs first (writtenOf written s)
-  back-shared z x same long new kept =
-      let told = written-shared s z written in
-      rest-back xs ys (writtenOf written s) first (choresOf s) (ap length told ∙ long) (omega (arith, valid s z .choresFit)) (new ∙ ap written same ∙ sym told) kept
+-- what the share-out leaves of the lists lent to it, whether it takes the sheet or not
+record Left (s owners scratch owners′ numbers′ scratch′ : List ℕ) (out : ShareOut) : Type 0 where
+  answer : shareOutReply out ≡ answerOf s
+  ownersWritten : take (entriesIn s) owners′ ≡ writtenOf ownerBytes s
+  ownersKept : drop (entriesIn s) owners′ ≡ drop (entriesIn s) owners
+  pricesWritten : take (entriesIn s) numbers′ ≡ writtenOf (λ x. x .prices) s
+  zeros : scratch ≡ replicate (length scratch) 0 → scratch′ ≡ scratch
 
-  back-refused : (sheetRefusal s ≡ 0 → ⊥) → ys ≡ drop first xs → handedBack xs first ys ≡ sets xs first (writtenOf written s)
-  back-refused h kept =
-      let told = written-refused s h written in
-      rest-back xs ys (writtenOf written s) first 0 (ap length told) (omega arith) (sym told) kept
+module _ {s owners numbers scratch o p c : List ℕ} {out : ShareOut} (A : Allocated s owners numbers scratch o p c out) where
+  left : allocateRefusal s (length owners) (length numbers) (length scratch) ≡ sheetRefusal s → Left s owners scratch o p c out
+  left decides = by-same (sheetRefusal s) 0 shared-out turned-down
+    where
+      shared-out : sheetRefusal s ≡ 0 → Left s owners scratch o p c out
+      shared-out z =
+          let S = A .notRefused (decides ∙ z) in
+          let same = final-demand3 s z .only (S .final) (S .demand3 .ends) in
+          record {
+            answer = S .answer ∙ ap (λ (x : State). shared (x .moves) (x .cuts)) same ∙ sym (answer-shared s z);
+            ownersWritten = rw (entries-shared s z, written-shared s z ownerBytes, ← same) (S .ownersWritten);
+            ownersKept = rw (entries-shared s z) (S .ownersKept);
+            pricesWritten = rw (entries-shared s z, written-shared s z (λ x. x .prices), ← same) (S .pricesWritten);
+            zeros = λ e. S .zeros ∙ sym e;
+          }
 
--- the contract of the share-out over the rests, read over the whole lists
-module _ {s owners prices scratch o p c : List ℕ} {first : ℕ} {out : ShareOut} (R : Room first owners prices scratch) where
-  module _ (A : Allocated s (drop first owners) (drop first prices) scratch o p c out) where
-    decides : allocateRefusal s (length (drop first owners)) (length (drop first prices)) (length scratch) ≡ sheetRefusal s
-    decides =
-        sheet-decides s (length (drop first owners)) (length (drop first prices)) (length scratch)
-        (simp length-drop (omega (arith, R .ownersFit))) (simp length-drop (omega (arith, R .pricesFit))) (R .scratchFits)
+      turned-down : (sheetRefusal s ≡ 0 → ⊥) → Left s owners scratch o p c out
+      turned-down h =
+          let N = A .turnedDown (λ e. h (sym decides ∙ e)) in
+          record {
+            answer = N .answer ∙ ap refused decides ∙ sym (answer-refused s h);
+            ownersWritten = rw (entries-refused s h, written-refused s h ownerBytes);
+            ownersKept = rw (entries-refused s h) (N .ownersKept);
+            pricesWritten = rw (entries-refused s h, written-refused s h (λ x. x .prices));
+            zeros = λ e. N .scratchKept;
+          }
 
-    by-sheet : RestShared s first owners prices scratch (handedBack owners first o) (handedBack prices first p) c out
-    by-sheet = by-same (sheetRefusal s) 0 shared-out turned-down
-      where
-        shared-out : sheetRefusal s ≡ 0 → RestShared s first owners prices scratch (handedBack owners first o) (handedBack prices first p) c out
-        shared-out z =
-            let S = A .notRefused (decides ∙ z) in
-            let same = final-demand3 s z .only (S .final) (S .demand3 .ends) in
-            record {
-              answer = S .answer ∙ ap (λ (x : State). shared (x .moves) (x .cuts)) same ∙ sym (answer-shared s z);
-              ownersAfter = back-shared s first (λ x. x .owners) owners o (R .ownersFit) z (S .final) same (owners-long s z) (S .ownersWritten) (S .ownersKept);
-              pricesAfter = back-shared s first (λ x. x .prices) prices p (R .pricesFit) z (S .final) same (prices-long s z) (S .pricesWritten) (S .pricesKept);
-              zeros = λ e. S .zeros ∙ sym e;
-            }
+-- the contract of the share-out over the rest of the owners, and then the prices written over the rest of the bytes
+module _ {s owners prices scratch numbers o p c : List ℕ} {first : ℕ} {out : ShareOut} (R : Room first owners prices scratch numbers) (A : Allocated s (take (length owners - first) (drop first owners)) numbers scratch o p c out) where
+  here : Left s (drop first owners) scratch o p c out
+  here =
+      left (rw (rest-whole {a = first} owners (omega (arith, R .ownersFit))) at A)
+      (sheet-decides s (length (drop first owners)) (length numbers) (length scratch)
+      (simp length-drop (omega (arith, R .ownersFit))) (omega (arith, R .numbersFit)) (R .scratchFits))
 
-        turned-down : (sheetRefusal s ≡ 0 → ⊥) → RestShared s first owners prices scratch (handedBack owners first o) (handedBack prices first p) c out
-        turned-down h =
-            let N = A .turnedDown (λ e. h (sym decides ∙ e)) in
-            record {
-              answer = N .answer ∙ ap refused decides ∙ sym (answer-refused s h);
-              ownersAfter = back-refused s first (λ x. x .owners) owners o (R .ownersFit) h (N .ownersKept);
-              pricesAfter = back-refused s first (λ x. x .prices) prices p (R .pricesFit) h (N .pricesKept);
-              zeros = λ e. N .scratchKept;
-            }
+  pub told : Answered s out
+  told = answered s (here .answer)
 
-  pub rest-shared : Allocated s (take (length owners - first) (drop first owners)) (take (length prices - first) (drop first prices)) scratch o p c out → RestShared s first owners prices scratch (handedBack owners first o) (handedBack prices first p) c out
-  rest-shared A =
-      by-sheet (rw (rest-whole {a = first} owners (omega (arith, R .ownersFit)), rest-whole {a = first} prices (omega (arith, R .pricesFit))) at A)
+  module _ {m : ℕ} (T : Taken s out m) (kept : length p ≡ length numbers) where
+    entries : m ≡ entriesIn s
+    entries = taken s (here .answer) T
+
+    room : pricebytes.Room (drop (4 * first) prices) (entriesIn s) p
+    room =
+        record {
+          inBytes = simp length-drop (omega (arith, entries-few s, R .pricesFit));
+          inPrices = omega (arith, entries-few s, R .numbersFit);
+        }
+
+    whole : take (length prices - 4 * first) (drop (4 * first) prices) ≡ drop (4 * first) prices
+    whole = rest-whole {a = 4 * first} prices (omega (arith, R .pricesFit))
+
+    pub writable : pricebytes.Room (take (length prices - 4 * first) (drop (4 * first) prices)) m p
+    writable = rw (whole, entries) room
+
+    pub rest-shared : {bytes : List ℕ} → bytes ≡ withPrices m p (take (length prices - 4 * first) (drop (4 * first) prices)) → RestShared s first owners prices scratch (handedBack owners first o) (handedBack prices (4 * first) bytes) c out
+    rest-shared {bytes} wrote =
+        let are : bytes ≡ withPrices (entriesIn s) p (drop (4 * first) prices) = rw (whole, entries) at wrote in
+        record {
+          answer = here .answer;
+          ownersAfter =
+              rest-back owners o (writtenOf ownerBytes s) first (entriesIn s) (omega (arith, written-long 1 ownerBytes owners-sized s)) (omega (arith, entries-few s, R .ownersFit)) (here .ownersWritten) (here .ownersKept);
+          pricesAfter =
+              rest-back prices bytes (writtenOf priceBytes s) (4 * first) (4 * entriesIn s) (written-long 4 priceBytes prices-sized s) (omega (arith, entries-few s, R .pricesFit))
+              (rw are (with-first p (drop (4 * first) prices) (entriesIn s) (room .inPrices) ∙ ap bytesOf (here .pricesWritten) ∙ bytes-written s))
+              (rw are (with-rest p (drop (4 * first) prices) (entriesIn s) (room .inPrices)));
+          zeros = here .zeros;
+        }

@@ -1,5 +1,5 @@
 -- What holds when the first j sheets of a book have passed: the invariant of the loop over them.
-use Prim.Native.Nat.{ℕ, _≤_}
+use Prim.Native.Nat.{ℕ, _*_, _≤_}
 use mathlib.Core.Bool.{cond}
 use mathlib.Core.List.{List, _++_}
 use mathlib.Core.Path.{_≡_}
@@ -14,7 +14,7 @@ use Rattle.model.specs.Algorithm.{State}
 use Rattle.model.specs.Replies.{Reply, refused, sharedAt, absent, replyAt}
 use Rattle.model.specs.Book.{ownRefusal, firstEntry, stretches}
 use Rattle.allocation.specs.Final.{accepts}
-use Rattle.book.specs.Finals.{finalsOf}
+use Rattle.book.specs.Finals.{finalsOf, ownerBytes, priceBytes}
 
 module _ (book : List ℕ) where
   -- the answer for sheet i, one of the book's
@@ -28,9 +28,9 @@ module _ (book : List ℕ) where
   unfoldable pub counts : (State → ℕ) → ℕ → ℕ
   counts counted i = cond (accepts (sheetOf book i)) (counted (finalsOf book i)) 0
 
-  -- one of the long lists after j sheets
-  unfoldable pub longAfter : (State → List ℕ) → ℕ → List ℕ → List ℕ
-  longAfter written j lent = stretches book (finalsOf book) written j ++ drop (firstEntry book j) lent
+  -- one of the long lists after j sheets, with so many bytes to an entry
+  unfoldable pub longAfter : ℕ → (State → List ℕ) → ℕ → List ℕ → List ℕ
+  longAfter width written j lent = stretches book (finalsOf book) written j ++ drop (width * firstEntry book j) lent
 
   pub record Passed (lentOwners lentPrices lentScratch owners prices scratch : List ℕ) (sheets : List SheetEntry) (total : Tally) (first j : ℕ) : Type 0 where
     pub within : j ≤ sheetCount book
@@ -39,6 +39,6 @@ module _ (book : List ℕ) where
     pub answers : (i : ℕ) → replyAt sheets i ≡ cond (ltb i j) (told i) absent
     pub moves : total .moves ≡ sumTo j (counts (λ x. x .moves))
     pub cuts : total .cuts ≡ sumTo j (counts (λ x. x .cuts))
-    pub ownersNow : owners ≡ longAfter (λ x. x .owners) j lentOwners
-    pub pricesNow : prices ≡ longAfter (λ x. x .prices) j lentPrices
+    pub ownersNow : owners ≡ longAfter 1 ownerBytes j lentOwners
+    pub pricesNow : prices ≡ longAfter 4 priceBytes j lentPrices
     pub scratchNow : scratch ≡ lentScratch

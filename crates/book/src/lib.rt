@@ -1,12 +1,13 @@
-// The share-out of a whole book: sheet after sheet, each into the next free stretch of the long lists.
+// The share-out of a whole book: sheet after sheet, each into the next free stretch of the long lists. A price takes four bytes, as C lends
+// them, and `numbers` has the prices of the sheet at work.
 
 mod refusal;
 
 ghost use mathlib.Core.Path.{_≡_};
 ghost use Rattle.model.specs.Replies.{sheetReply};
-ghost use Rattle.model.specs.Promises.{BookSharedOut, BookAllocated};
+ghost use Rattle.cmodel.specs.Promises.{BookInBytes};
 ghost use Rattle.book.specs.Said.{placed};
-ghost use Rattle.book.specs.Steps.{noEntries, Answered, Taken, Room, RestShared, Fine, TurnedDown};
+ghost use Rattle.book.specs.Steps.{noEntries, Answered, Taken, Room, RestShared, Fine, SharedInBytes, TurnedDown};
 
 fn no_sheets() -> [model::SheetEntry; model::MAX_SHEETS]
     ensures { λ r. ⌜ r ≡ noEntries ⌝ }
@@ -42,29 +43,35 @@ fn entries(sheet: &[u8], out: model::ShareOut) -> usize
     }
 }
 
-// The share-out of one sheet, with the free rest of each long list lent to it.
+// The share-out of one sheet: the free rest of the owner list is lent to it, and its prices are written over the free rest of their bytes.
 fn share_rest(
     sheet: &[u8],
     first: usize,
     owners: &mut [u8],
-    prices: &mut [u32],
+    prices: &mut [u8],
     scratch: &mut [u8],
+    numbers: &mut [u32],
 ) -> model::ShareOut
-    requires { ⌜ Room first (now owners) (now prices) (now scratch) ⌝ }
+    requires { ⌜ Room first (now owners) (now prices) (now scratch) (now numbers) ⌝ }
     ensures { λ r. ⌜ RestShared (now (sheet .entry)) first (now (owners .entry)) (now (prices .entry)) (now (scratch .entry)) (now (owners .exit)) (now (prices .exit)) (now (scratch .exit)) r ⌝ }
 {
-    allocation::allocate(sheet, &mut owners[first..], &mut prices[first..], scratch)
+    let out = allocation::allocate(sheet, &mut owners[first..], numbers, scratch);
+    let m = entries(sheet, out);
+    let start = pricebytes::SIZE * first;
+    pricebytes::write_prices(numbers, m, &mut prices[start..]);
+    out
 }
 
 // The sheets one after the other; `first` is the first entry that is free.
 fn share_sheets(
     book: &[u8],
     owners: &mut [u8],
-    prices: &mut [u32],
+    prices: &mut [u8],
     scratch: &mut [u8],
+    numbers: &mut [u32],
 ) -> model::BookResult
-    requires { ⌜ Fine (now book) (now owners) (now prices) (now scratch) ⌝ }
-    ensures { λ r. ⌜ BookSharedOut (now (book .entry)) (now (owners .entry)) (now (prices .entry)) (now (scratch .entry)) (now (owners .exit)) (now (prices .exit)) (now (scratch .exit)) r ⌝ }
+    requires { ⌜ Fine (now book) (now owners) (now prices) (now scratch) (now numbers) ⌝ }
+    ensures { λ r. ⌜ SharedInBytes (now (book .entry)) (now (owners .entry)) (now (prices .entry)) (now (scratch .entry)) (now (owners .exit)) (now (prices .exit)) (now (scratch .exit)) r ⌝ }
 {
     let k = contents::count(book);
     let mut sheets = no_sheets();
@@ -73,7 +80,7 @@ fn share_sheets(
     let mut j = 0;
     while j < k {
         let sheet = contents::sheet_at(book, j);
-        let out = share_rest(sheet, first, owners, prices, scratch);
+        let out = share_rest(sheet, first, owners, prices, scratch, numbers);
         sheets[j] = entry(out, first);
         total = tally::tallied(total, out);
         first += entries(sheet, out);
@@ -104,15 +111,17 @@ fn turned_down(refusal: u8) -> model::BookResult
 pub fn allocate_book(
     book: &[u8],
     owners: &mut [u8],
-    prices: &mut [u32],
+    prices: &mut [u8],
     scratch: &mut [u8],
 ) -> model::BookResult
-    ensures { λ r. ⌜ BookAllocated (now (book .entry)) (now (owners .entry)) (now (prices .entry)) (now (scratch .entry)) (now (owners .exit)) (now (prices .exit)) (now (scratch .exit)) r ⌝ }
+    ensures { λ r. ⌜ BookInBytes (now (book .entry)) (now (owners .entry)) (now (prices .entry)) (now (scratch .entry)) (now (owners .exit)) (now (prices .exit)) (now (scratch .exit)) r ⌝ }
 {
-    let number = refusal::book_refusal(book, owners.len(), prices.len(), scratch.len());
+    let places = prices.len() / pricebytes::SIZE;
+    let number = refusal::book_refusal(book, owners.len(), places, scratch.len());
     if number != 0 {
         return turned_down(number);
     }
     allocation::clear(scratch);
-    share_sheets(book, owners, prices, scratch)
+    let mut numbers = pricebytes::for_chores();
+    share_sheets(book, owners, prices, scratch, &mut numbers)
 }

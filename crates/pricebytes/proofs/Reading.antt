@@ -6,8 +6,7 @@ use mathlib.Core.Path.{_≡_, _∙_}
 use native.Mathlib.Omega.{arith}
 use lib.ListN.{length, getD, take}
 use lib.Seq.{take-at, take-all, length-take-le}
-use Rattle.finite.specs.Lists.{tabulate}
-use Rattle.finite.proofs.Lists.{tab-length, tab-at, tab-take}
+use Rattle.finite.proofs.Lists.{tab-length, tab-at}
 use Rattle.pricebytes.specs.PriceBytes.{priceAt, pricesIn}
 
 module _ (bytes : List ℕ) where
@@ -19,16 +18,8 @@ module _ (bytes : List ℕ) where
   unfolding pricesIn
   prices-at c l = tab-at (priceAt bytes) c 0 (omega arith)
 
-  pub prices-first : (n : ℕ) → 4 * n ≤ length bytes → take n (pricesIn bytes) ≡ tabulate n (priceAt bytes)
-  unfolding pricesIn
-  prices-first n l = tab-take (priceAt bytes) (omega arith)
-
-  -- the first n prices, as they stand in a list that they were read into
-  pub prices-read : (n : ℕ) (rest : List ℕ) → 4 * n ≤ length bytes → take n (take n (pricesIn bytes) ++ rest) ≡ take n (pricesIn bytes)
-  prices-read n rest l =
-      take-at (take n (pricesIn bytes)) rest n (length-take-le n _ (omega (arith, prices-count)))
-
-  -- from 4 n bytes they are all
+  -- all n prices, as they stand in a list that they were read into
   pub prices-all : (n : ℕ) (rest : List ℕ) → length bytes ≡ 4 * n → take n (take n (pricesIn bytes) ++ rest) ≡ pricesIn bytes
   prices-all n rest e =
-      prices-read n rest (omega arith) ∙ take-all n (pricesIn bytes) (omega (arith, prices-count))
+      take-at (take n (pricesIn bytes)) rest n (length-take-le n _ (omega (arith, prices-count)))
+      ∙ take-all n (pricesIn bytes) (omega (arith, prices-count))

@@ -6,7 +6,7 @@ use mathlib.Core.Path.{_≡_, refl, sym, ap, _∙_}
 use native.Mathlib.Numerals.{add-one}
 use native.Mathlib.Omega.{arith}
 use lib.ListN.{length, getD, take, drop, set, length-append, length-drop}
-use lib.Seq.{sets, sets-eq, take-suc, take-at, take-append-le, drop-append-add, drop-drop, length-take-le}
+use lib.Seq.{sets, sets-eq, take-suc, take-at, drop-at, drop-append-add, drop-drop, length-take-le}
 use Rattle.pricebytes.specs.PriceBytes.{fourBytes, bytesOf, withPrices}
 
 pub bytes-length : (ps : List ℕ) → length (bytesOf ps) ≡ 4 * length ps
@@ -43,6 +43,10 @@ module _ (ps bytes : List ℕ) where
   unfolding withPrices
   with-first n l = take-at (bytesOf (take n ps)) (drop (4 * n) bytes) (4 * n) (first-length l)
 
+  pub with-rest : (n : ℕ) → n ≤ length ps → drop (4 * n) (withPrices n ps bytes) ≡ drop (4 * n) bytes
+  unfolding withPrices
+  with-rest n l = drop-at (bytesOf (take n ps)) (drop (4 * n) bytes) (4 * n) (first-length l)
+
   -- one price more
   pub with-next : {c : ℕ} → c < length ps → 4 * c + 4 ≤ length bytes → sets (withPrices c ps bytes) (4 * c) (fourBytes (getD ps c 0)) ≡ withPrices (c + 1) ps bytes
   unfolding withPrices
@@ -55,8 +59,3 @@ module _ (ps bytes : List ℕ) where
       let more : bytesOf (take (c + 1) ps) ≡ before ++ fourBytes (getD ps c 0) = rw (add-one c, take-suc ps c 0 l, bytes-append, bytes-one) in
       sets-eq (fourBytes (getD ps c 0)) (before ++ rest) (4 * c) (simp (length-append, length-drop) (omega arith))
       ∙ rw (take-at before rest (4 * c) long, kept, more, append-assoc)
-
--- what follows the first n prices does not count
-pub with-front : (n : ℕ) (ps rest bytes : List ℕ) → n ≤ length ps → withPrices n (ps ++ rest) bytes ≡ withPrices n ps bytes
-unfolding withPrices
-with-front n ps rest bytes l = rw (take-append-le n ps rest l)

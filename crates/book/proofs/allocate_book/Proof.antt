@@ -5,6 +5,16 @@ use Rattle.book.proofs.Outcome.{fine-book, book-refused, book-shared}
 use Rattle.book.proofs.allocate_book.Statement.{statement}
 use Rattle.book.proofs.allocate_book.Tie as tie
 
+-- back from the cleared scratch: to the test of the refusal number, to that number, to the start
+abbrev fine : tie.After-clear → tie.Else1
+fine c = c .before .before
+
+abbrev judged : tie.After-clear → tie.After-book-refusal
+judged c = c .before .before .before
+
+abbrev start : tie.After-clear → tie.Start
+start c = c .before .before .before .before .before .before .before .before
+
 book-refusal-requires : tie.Need-book-refusal-requires
 book-refusal-requires c κs = search needs
 
@@ -12,15 +22,21 @@ turned-down-requires : tie.Need-turned-down-requires
 turned-down-requires c κs = search needs
 
 returns : tie.Need-returns
-returns c = book-refused _ _ _ _ (c .before .before .book-refusal .ensures) (c .before .if1 .taken) (c .turned-down .ensures)
+returns c = book-refused _ _ (c .before .before .before .before .before .before .before .args .prices .now) _ (c .before .before .book-refusal .ensures) (c .before .if1 .taken) (c .turned-down .ensures)
 
 clear-requires : tie.Need-clear-requires
 clear-requires c κs = search needs
 
+for-chores-requires : tie.Need-for-chores-requires
+for-chores-requires c κs = search needs
+
+slice-aggregate-share-sheets : tie.Need-slice-aggregate-share-sheets
+slice-aggregate-share-sheets c = search needs
+
 share-sheets-requires : tie.Need-share-sheets-requires
 share-sheets-requires c κs =
-    let args = c .before .before .before .before .before .before .before .before .before .before .before .before .before .args in
-    fine-book _ _ _ (args .scratch .now) (c .before .before .before .before .before .before .before .before .book-refusal .ensures) (c .before .before .before .before .before .before .before .if1 .left) (c .before .before .before .before .before .clear .ensures)
+    let at = c .before .before .before .before .before .before .before in
+    fine-book _ _ _ (start at .args .scratch .now) (judged at .book-refusal .ensures) (fine at .if1 .left) (at .clear .ensures) (c .before .before .before .before .for-chores .ensures)
 
 same-length : tie.Need-same-length
 same-length c = search needs
@@ -33,7 +49,8 @@ same-length-3 c = search needs
 
 returns-2 : tie.Need-returns-2
 returns-2 c =
-    book-shared _ _ _ _ (c .before .before .before .before .before .before .before .before .before .before .before .before .before .before .before .book-refusal .ensures) (c .before .before .before .before .before .before .before .before .before .before .before .before .before .before .if1 .left) (c .before .before .before .before .before .before .before .before .before .before .before .before .clear .ensures) (c .before .before .before .before .before .before .share-sheets .ensures)
+    let at = c .before .before .before .before .before .before .before .before .before .before .before .before .before .before .before in
+    book-shared _ _ _ _ (judged at .book-refusal .ensures) (fine at .if1 .left) (at .clear .ensures) (c .before .before .before .before .before .before .before .share-sheets .ensures)
 
 pub allocate-book-spec : {M : Type 1} → statement M
 allocate-book-spec =
@@ -43,6 +60,8 @@ allocate-book-spec =
     turned-down-requires
     returns
     clear-requires
+    for-chores-requires
+    slice-aggregate-share-sheets
     share-sheets-requires
     same-length
     same-length-2

@@ -1,9 +1,13 @@
--- `book::share_rest` meets its contract: what the share-out leaves of the rests, read over the whole lists.
+-- `book::share_rest` meets its contract: what the share-out and the bytes of its prices leave of the rests, read over the whole lists.
 -- Assumes nothing.
 use borrow.Author.Needs.{needs}
-use Rattle.book.proofs.Rest.{rest-shared}
+use Rattle.book.proofs.Rest.{told, writable, rest-shared}
 use Rattle.book.proofs.share_rest.Statement.{statement}
 use Rattle.book.proofs.share_rest.Tie as tie
+
+-- back from the share-out to the start
+abbrev start : tie.After-allocate → tie.Start
+start c = c .before .before .before .before .before .before .before .before .before
 
 sub-allocate : tie.Need-sub-allocate
 sub-allocate c = search needs
@@ -14,20 +18,30 @@ part-allocate-start c = search needs
 part-allocate-end : tie.Need-part-allocate-end
 part-allocate-end c = search needs
 
-mul-allocate : tie.Need-mul-allocate
-mul-allocate c = search needs
-
-sub-allocate-2 : tie.Need-sub-allocate-2
-sub-allocate-2 c = search needs
-
-part-allocate-start-2 : tie.Need-part-allocate-start-2
-part-allocate-start-2 c = search needs
-
-part-allocate-end-2 : tie.Need-part-allocate-end-2
-part-allocate-end-2 c = search needs
-
 allocate-requires : tie.Need-allocate-requires
 allocate-requires c κs = search needs
+
+entries-requires : tie.Need-entries-requires
+entries-requires c κs =
+    let at = c .before .before .before .before .before .before in
+    told (start at .pre) (at .allocate .ensures)
+
+mul-start : tie.Need-mul-start
+mul-start c = search needs
+
+sub-write-prices : tie.Need-sub-write-prices
+sub-write-prices c = search needs
+
+part-write-prices-start : tie.Need-part-write-prices-start
+part-write-prices-start c = search needs
+
+part-write-prices-end : tie.Need-part-write-prices-end
+part-write-prices-end c = search needs
+
+write-prices-requires : tie.Need-write-prices-requires
+write-prices-requires c κs =
+    let at = c .before .before .before .before .before .before .before .before .before in
+    writable (start at .pre) (at .allocate .ensures) (c .before .before .entries .ensures) (at .allocate .kept .1 .1 .0)
 
 same-length : tie.Need-same-length
 same-length c = search needs
@@ -38,10 +52,13 @@ same-length-2 c = search needs
 same-length-3 : tie.Need-same-length-3
 same-length-3 c = search needs
 
+same-length-4 : tie.Need-same-length-4
+same-length-4 c = search needs
+
 returns : tie.Need-returns
 returns c =
-    let at = c .before .before .before .before .before .before in
-    rest-shared (at .before .before .before .before .before .before .before .before .pre) (at .allocate .ensures)
+    let at = c .before .before .before .before .before .before .before .before .before .before .before .before in
+    rest-shared (start at .pre) (at .allocate .ensures) (c .before .before .before .before .before .entries .ensures) (at .allocate .kept .1 .1 .0) (c .before .before .write-prices .ensures)
 
 pub share-rest-spec : {M : Type 1} → statement M
 share-rest-spec =
@@ -50,12 +67,15 @@ share-rest-spec =
     sub-allocate
     part-allocate-start
     part-allocate-end
-    mul-allocate
-    sub-allocate-2
-    part-allocate-start-2
-    part-allocate-end-2
     allocate-requires
+    entries-requires
+    mul-start
+    sub-write-prices
+    part-write-prices-start
+    part-write-prices-end
+    write-prices-requires
     same-length
     same-length-2
     same-length-3
+    same-length-4
     returns)

@@ -4,14 +4,8 @@ use Rattle.cbook.proofs.Books.{book-refused, tellable, book-told}
 use Rattle.cbook.proofs.allocate_book.Statement.{statement}
 use Rattle.cbook.proofs.allocate_book.Tie as tie
 
-for-book-requires : tie.Need-for-book-requires
-for-book-requires c κs = search needs
-
-slice-aggregate-allocate-with : tie.Need-slice-aggregate-allocate-with
-slice-aggregate-allocate-with c = search needs
-
-allocate-with-requires : tie.Need-allocate-with-requires
-allocate-with-requires c κs = search needs
+allocate-book-requires : tie.Need-allocate-book-requires
+allocate-book-requires c κs = search needs
 
 same-length : tie.Need-same-length
 same-length c = search needs
@@ -24,13 +18,13 @@ same-length-3 c = search needs
 
 returns : tie.Need-returns
 returns c =
-    let shared = c .before .before .before .before .before .before .before .before .before .allocate-with .ensures in
+    let shared = c .before .before .before .before .before .before .before .before .allocate-book .ensures in
     book-refused shared (c .if1 .taken)
 
 tell-requires : tie.Need-tell-requires
 tell-requires c κs =
     let fine = c .before .before .before .before .before in
-    tellable (fine .before .before .before .before .before .before .before .before .before .allocate-with .ensures) (fine .if1 .left)
+    tellable (fine .before .before .before .before .before .before .before .before .allocate-book .ensures) (fine .if1 .left)
 
 same-length-4 : tie.Need-same-length-4
 same-length-4 c = search needs
@@ -44,15 +38,13 @@ same-length-6 c = search needs
 returns-2 : tie.Need-returns-2
 returns-2 c =
     let fine = c .before .before .before .before .before .before in
-    book-told (fine .before .before .before .before .before .before .before .before .before .allocate-with .ensures) (fine .if1 .left) (c .tell .ensures)
+    book-told (fine .before .before .before .before .before .before .before .before .allocate-book .ensures) (fine .if1 .left) (c .tell .ensures)
 
 pub allocate-book-spec : {M : Type 1} → statement M
 allocate-book-spec =
     tie.close
     (tie.spec
-    for-book-requires
-    slice-aggregate-allocate-with
-    allocate-with-requires
+    allocate-book-requires
     same-length
     same-length-2
     same-length-3
