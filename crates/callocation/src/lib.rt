@@ -51,13 +51,6 @@ fn lent_for(bytes: usize) -> usize
     pricebytes::entries(bytes, model::MAX_CHORES)
 }
 
-// Only its length counts.
-fn for_chores() -> [u32; model::MAX_CHORES]
-    ensures { λ r. ⌜ length r ≡ maxChores ⌝ }
-{
-    [0; model::MAX_CHORES]
-}
-
 // `lent` is for the prices as numbers.
 fn allocate_with(
     sheet: &[u8],
@@ -87,7 +80,7 @@ pub fn allocate(
 ) -> u8
     ensures { λ r. ⌜ AllocatedInC (now (sheet .entry)) (now (owners .entry)) (now (prices .entry)) (now (scratch .entry)) (now (owners .exit)) (now (prices .exit)) (now (scratch .exit)) (now (moves .entry)) (now (cuts .entry)) (now (moves .exit)) (now (cuts .exit)) r ⌝ }
 {
-    let mut lent = for_chores();
+    let mut lent = pricebytes::for_chores();
     allocate_with(sheet, owners, prices, scratch, &mut lent, moves, cuts)
 }
 
@@ -122,7 +115,7 @@ pub fn allocate_recorded(
 ) -> u8
     ensures { λ r. ⌜ RecordedInC (now (sheet .entry)) (now (owners .entry)) (now (prices .entry)) (now (scratch .entry)) (now («record» .entry)) (now (owners .exit)) (now (prices .exit)) (now (scratch .exit)) (now («record» .exit)) (now (moves .entry)) (now (cuts .entry)) (now (moves .exit)) (now (cuts .exit)) r ⌝ }
 {
-    let mut lent = for_chores();
+    let mut lent = pricebytes::for_chores();
     allocate_recorded_with(
         sheet,
         owners,
