@@ -78,6 +78,9 @@ module _ (s : List ℕ) where
     unfolding entriesIn
     taken T = T .is ∙ rw (answer-parts .whether)
 
+    pub taken-few : {n : ℕ} → Taken s out n → n ≤ maxChores
+    taken-few T = rw (taken T) entries-few
+
 -- where a final state has so many bytes to an entry, so many are written
 pub written-long : (width : ℕ) (written : State → List ℕ) → ((s : List ℕ) → sheetRefusal s ≡ 0 → length (written (finalOf s)) ≡ width * choresOf s) → (s : List ℕ) → length (writtenOf written s) ≡ width * entriesIn s
 unfolding writtenOf entriesIn

@@ -17,11 +17,10 @@ use Rattle.sheet.proofs.Refusal.{valid, lent-ok}
 use Rattle.sheet.proofs.OrElse.{or-else-next, or-else-first, or-else-none}
 use Rattle.allocation.proofs.Final.{final-demand3}
 use Rattle.pricebytes.specs.PriceBytes.{bytesOf, withPrices}
-use Rattle.pricebytes.specs.PriceBytes as pricebytes
 use Rattle.pricebytes.proofs.Writing.{with-first, with-rest}
 use Rattle.book.specs.Finals.{ownerBytes, priceBytes, entriesIn, answerOf, writtenOf}
-use Rattle.book.specs.Steps.{Answered, Taken, Room, RestShared}
-use Rattle.book.proofs.Finals.{answer-shared, entries-shared, written-shared, owners-sized, prices-sized, answer-refused, entries-refused, written-refused, entries-few, bytes-written, answered, taken, written-long}
+use Rattle.book.specs.Steps.{Taken, Room, RestShared}
+use Rattle.book.proofs.Finals.{answer-shared, entries-shared, written-shared, owners-sized, prices-sized, answer-refused, entries-refused, written-refused, entries-few, bytes-written, taken, written-long}
 
 -- a list whose rest from a on was lent, and is back as ys
 abbrev pub handedBack : List ℕ → ℕ → List ℕ → List ℕ
@@ -46,11 +45,14 @@ record Left (s owners scratch owners′ numbers′ scratch′ : List ℕ) (out :
   pricesWritten : take (entriesIn s) numbers′ ≡ writtenOf (λ x. x .prices) s
   zeros : scratch ≡ replicate (length scratch) 0 → scratch′ ≡ scratch
 
-module _ {s owners numbers scratch o p c : List ℕ} {out : ShareOut} (A : Allocated s owners numbers scratch o p c out) where
-  left : allocateRefusal s (length owners) (length numbers) (length scratch) ≡ sheetRefusal s → Left s owners scratch o p c out
-  left decides = by-same (sheetRefusal s) 0 shared-out turned-down
+module _ {s lent numbers scratch o p c : List ℕ} {out : ShareOut} (A : Allocated s lent numbers scratch o p c out) (many : maxChores ≤ length lent) (enough : maxChores ≤ length numbers) (fits : scratchSize ≤ length scratch) where
+  left : Left s lent scratch o p c out
+  left = by-same (sheetRefusal s) 0 shared-out turned-down
     where
-      shared-out : sheetRefusal s ≡ 0 → Left s owners scratch o p c out
+      decides : allocateRefusal s (length lent) (length numbers) (length scratch) ≡ sheetRefusal s
+      decides = sheet-decides s (length lent) (length numbers) (length scratch) many enough fits
+
+      shared-out : sheetRefusal s ≡ 0 → Left s lent scratch o p c out
       shared-out z =
           let S = A .notRefused (decides ∙ z) in
           let same = final-demand3 s z .only (S .final) (S .demand3 .ends) in
@@ -62,7 +64,7 @@ module _ {s owners numbers scratch o p c : List ℕ} {out : ShareOut} (A : Alloc
             zeros = λ e. S .zeros ∙ sym e;
           }
 
-      turned-down : (sheetRefusal s ≡ 0 → ⊥) → Left s owners scratch o p c out
+      turned-down : (sheetRefusal s ≡ 0 → ⊥) → Left s lent scratch o p c out
       turned-down h =
           let N = A .turnedDown (λ e. h (sym decides ∙ e)) in
           record {
@@ -73,44 +75,40 @@ module _ {s owners numbers scratch o p c : List ℕ} {out : ShareOut} (A : Alloc
             zeros = λ e. N .scratchKept;
           }
 
--- the contract of the share-out over the rest of the owners, and then the prices written over the rest of the bytes
-module _ {s owners prices scratch numbers o p c : List ℕ} {first : ℕ} {out : ShareOut} (R : Room first owners prices scratch numbers) (A : Allocated s (take (length owners - first) (drop first owners)) numbers scratch o p c out) where
-  here : Left s (drop first owners) scratch o p c out
-  here =
-      left (rw (rest-whole {a = first} owners (omega (arith, R .ownersFit))) at A)
-      (sheet-decides s (length (drop first owners)) (length numbers) (length scratch)
-      (simp length-drop (omega (arith, R .ownersFit))) (omega (arith, R .numbersFit)) (R .scratchFits))
+  pub told : shareOutReply out ≡ answerOf s
+  told = left .answer
 
-  pub told : Answered s out
-  told = answered s (here .answer)
+-- the share-out over the rest of the owners, and then its prices written over the rest of their bytes
+module _ {s owners prices scratch numbers o p c bytes : List ℕ} {first m : ℕ} {out : ShareOut}
+    (R : Room first owners prices scratch numbers)
+    (A : Allocated s (take (length owners - first) (drop first owners)) numbers scratch o p c out)
+    (T : Taken s out m)
+    (kept : length p ≡ length numbers)
+    (wrote : bytes ≡ withPrices m p (take (length prices - 4 * first) (drop (4 * first) prices)))
+  where
+    abbrev n : ℕ
+    n = entriesIn s
 
-  module _ {m : ℕ} (T : Taken s out m) (kept : length p ≡ length numbers) where
-    entries : m ≡ entriesIn s
-    entries = taken s (here .answer) T
+    here : Left s (drop first owners) scratch o p c out
+    here =
+        left (rw (rest-whole {a = first} owners (omega (arith, R .ownersFit))) at A)
+        (simp length-drop (omega (arith, R .ownersFit))) (omega (arith, R .numbersFit)) (R .scratchFits)
 
-    room : pricebytes.Room (drop (4 * first) prices) (entriesIn s) p
-    room =
-        record {
-          inBytes = simp length-drop (omega (arith, entries-few s, R .pricesFit));
-          inPrices = omega (arith, entries-few s, R .numbersFit);
-        }
+    room : n ≤ length p
+    room = omega (arith, entries-few s, R .numbersFit)
 
-    whole : take (length prices - 4 * first) (drop (4 * first) prices) ≡ drop (4 * first) prices
-    whole = rest-whole {a = 4 * first} prices (omega (arith, R .pricesFit))
+    written : bytes ≡ withPrices n p (drop (4 * first) prices)
+    written = rw (rest-whole {a = 4 * first} prices (omega (arith, R .pricesFit)), taken s (here .answer) T) at wrote
 
-    pub writable : pricebytes.Room (take (length prices - 4 * first) (drop (4 * first) prices)) m p
-    writable = rw (whole, entries) room
-
-    pub rest-shared : {bytes : List ℕ} → bytes ≡ withPrices m p (take (length prices - 4 * first) (drop (4 * first) prices)) → RestShared s first owners prices scratch (handedBack owners first o) (handedBack prices (4 * first) bytes) c out
-    rest-shared {bytes} wrote =
-        let are : bytes ≡ withPrices (entriesIn s) p (drop (4 * first) prices) = rw (whole, entries) at wrote in
+    pub rest-shared : RestShared s first owners prices scratch (handedBack owners first o) (handedBack prices (4 * first) bytes) c out
+    rest-shared =
         record {
           answer = here .answer;
           ownersAfter =
-              rest-back owners o (writtenOf ownerBytes s) first (entriesIn s) (omega (arith, written-long 1 ownerBytes owners-sized s)) (omega (arith, entries-few s, R .ownersFit)) (here .ownersWritten) (here .ownersKept);
+              rest-back owners o (writtenOf ownerBytes s) first n (omega (arith, written-long 1 ownerBytes owners-sized s)) (omega (arith, entries-few s, R .ownersFit)) (here .ownersWritten) (here .ownersKept);
           pricesAfter =
-              rest-back prices bytes (writtenOf priceBytes s) (4 * first) (4 * entriesIn s) (written-long 4 priceBytes prices-sized s) (omega (arith, entries-few s, R .pricesFit))
-              (rw are (with-first p (drop (4 * first) prices) (entriesIn s) (room .inPrices) ∙ ap bytesOf (here .pricesWritten) ∙ bytes-written s))
-              (rw are (with-rest p (drop (4 * first) prices) (entriesIn s) (room .inPrices)));
+              rest-back prices bytes (writtenOf priceBytes s) (4 * first) (4 * n) (written-long 4 priceBytes prices-sized s) (omega (arith, entries-few s, R .pricesFit))
+              (rw written (with-first p (drop (4 * first) prices) n room ∙ ap bytesOf (here .pricesWritten) ∙ bytes-written s))
+              (rw written (with-rest p (drop (4 * first) prices) n room));
           zeros = here .zeros;
         }

@@ -1,13 +1,25 @@
 -- `book::share_rest` meets its contract: what the share-out and the bytes of its prices leave of the rests, read over the whole lists.
 -- Assumes nothing.
+use mathlib.Core.Path.{_≡_}
+use native.Mathlib.Omega.{arith}
+use lib.ListN.{length-take, length-drop}
 use borrow.Author.Needs.{needs}
-use Rattle.book.proofs.Rest.{told, writable, rest-shared}
+use Rattle.model.specs.Replies.{shareOutReply}
+use Rattle.book.specs.Finals.{answerOf}
+use Rattle.book.proofs.Finals.{answered, taken-few}
+use Rattle.book.proofs.Rest.{told, rest-shared}
 use Rattle.book.proofs.share_rest.Statement.{statement}
 use Rattle.book.proofs.share_rest.Tie as tie
 
 -- back from the share-out to the start
 abbrev start : tie.After-allocate → tie.Start
 start c = c .before .before .before .before .before .before .before .before .before
+
+-- there is room for any sheet, so it alone decides
+answer : (c : tie.After-allocate) → shareOutReply (c .allocate .result) ≡ answerOf (start c .args .sheet .now)
+answer c =
+    let room = start c .pre in
+    told (c .allocate .ensures) (simp (length-take, length-drop) (omega (arith, room .ownersFit))) (omega (arith, room .numbersFit)) (room .scratchFits)
 
 sub-allocate : tie.Need-sub-allocate
 sub-allocate c = search needs
@@ -22,9 +34,7 @@ allocate-requires : tie.Need-allocate-requires
 allocate-requires c κs = search needs
 
 entries-requires : tie.Need-entries-requires
-entries-requires c κs =
-    let at = c .before .before .before .before .before .before in
-    told (start at .pre) (at .allocate .ensures)
+entries-requires c κs = answered _ (answer (c .before .before .before .before .before .before))
 
 mul-start : tie.Need-mul-start
 mul-start c = search needs
@@ -41,7 +51,11 @@ part-write-prices-end c = search needs
 write-prices-requires : tie.Need-write-prices-requires
 write-prices-requires c κs =
     let at = c .before .before .before .before .before .before .before .before .before in
-    writable (start at .pre) (at .allocate .ensures) (c .before .before .entries .ensures) (at .allocate .kept .1 .1 .0)
+    let few = taken-few _ (answer at) (c .before .before .entries .ensures) in
+    record {
+      inBytes = simp (length-take, length-drop) (omega (arith, few, start at .pre .pricesFit));
+      inPrices = omega (arith, few, start at .pre .numbersFit, at .allocate .kept .1 .1 .0);
+    }
 
 same-length : tie.Need-same-length
 same-length c = search needs
