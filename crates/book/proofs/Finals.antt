@@ -1,9 +1,8 @@
 -- Laws of what the share-out of a sheet answers and writes.
 -- Assumes nothing.
 use Prim.Native.Nat.{ℕ, _*_, _≤_, zero-le}
-use mathlib.Core.Bool.{cond}
 use mathlib.Core.List.{List, []}
-use mathlib.Core.Path.{_≡_, refl, sym, ap, _∙_}
+use mathlib.Core.Path.{_≡_, sym, ap, _∙_}
 use native.Mathlib.Nat.{mul-zero}
 use native.Mathlib.Omega.{arith}
 use lib.ListN.{length}

@@ -1,8 +1,8 @@
 -- The rest of a list, lent from its middle: what the share-out of a sheet leaves in the whole of it.
 -- Assumes nothing.
-use Prim.Native.Nat.{ℕ, _+_, _-_, _*_, _≤_}
+use Prim.Native.Nat.{ℕ, _-_, _*_, _≤_}
 use mathlib.Core.List.{List, _++_}
-use mathlib.Core.Path.{_≡_, refl, sym, ap, _∙_}
+use mathlib.Core.Path.{_≡_, sym, ap, _∙_}
 use native.Mathlib.Omega.{arith}
 use lib.ListN.{length, take, drop, replicate, length-drop}
 use Rattle.finite.proofs.Below.{by-same}
@@ -28,7 +28,7 @@ handedBack xs a ys = take a xs ++ (ys ++ drop (length xs - a) (drop a xs))
 
 -- the sheet alone decides, where there is room for any sheet
 module _ (s : List ℕ) (owners prices scratch : ℕ) (o : maxChores ≤ owners) (p : maxChores ≤ prices) (c : scratchSize ≤ scratch) where
-  pub sheet-decides : allocateRefusal s owners prices scratch ≡ sheetRefusal s
+  sheet-decides : allocateRefusal s owners prices scratch ≡ sheetRefusal s
   unfolding allocateRefusal
   sheet-decides =
       by-same (sheetRefusal s) 0

@@ -1,7 +1,6 @@
 -- How far the sheets of a book reach into the long lists, and what they leave there.
 -- Assumes nothing.
 use Prim.Native.Nat.{ℕ, zero, suc, _+_, _*_, _≤_}
-use mathlib.Core.Bool.{cond}
 use mathlib.Core.List.{List, [], _++_}
 use mathlib.Core.Path.{_≡_, refl, ap, _∙_}
 use native.Mathlib.Nat.{mul-zero, mul-add}
@@ -26,7 +25,7 @@ use Rattle.book.specs.Passed.{longAfter}
 use Rattle.book.proofs.Finals.{prices-sized, entries-few, bytes-written, written-long}
 
 module _ (book : List ℕ) where
-  pub entries-are : (j : ℕ) → entriesOf book j ≡ entriesIn (sheetOf book j)
+  entries-are : (j : ℕ) → entriesOf book j ≡ entriesIn (sheetOf book j)
   unfolding entriesOf takesSheet ownRefusal accepts entriesIn
   entries-are j = refl
 
@@ -83,7 +82,7 @@ module _ (book : List ℕ) where
             (stretch-on (stretches book (finalsOf book) written j) (writtenOf written s) lent _ _ (stretches-long j) (written-long width written sized s) (rw next at room))
 
   -- prices as numbers, and their bytes
-  abbrev pub prices : ℕ → List ℕ
+  abbrev prices : ℕ → List ℕ
   prices j = stretches book (finalsOf book) (λ x. x .prices) j
 
   prices-bytes : (j : ℕ) → bytesOf (prices j) ≡ stretches book (finalsOf book) priceBytes j

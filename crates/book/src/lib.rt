@@ -1,5 +1,5 @@
-// The share-out of a whole book: sheet after sheet, each into the next free stretch of the long lists. A price takes four bytes, as C lends
-// them, and `numbers` has the prices of the sheet at work.
+// The share-out of a whole book: sheet after sheet, each into the next free stretch of the long lists. Prices are bytes, as C
+// lends them; `numbers` has those of the sheet at work.
 
 mod refusal;
 
@@ -32,7 +32,7 @@ fn entry(out: model::ShareOut, first: usize) -> model::SheetEntry
     }
 }
 
-// How many entries a sheet takes. A refused one may lack the byte that says its chores.
+// How many entries a sheet takes. A refused one may lack the bytes that say its chores.
 fn entries(sheet: &[u8], out: model::ShareOut) -> usize
     requires { ⌜ Answered (now sheet) out ⌝ }
     ensures { λ r. ⌜ Taken (now (sheet .entry)) out r ⌝ }

@@ -104,9 +104,9 @@ pub record ShownInC (first second : List ℕ) (person chore strand start size st
   pub inside : r ≡ 0 → start′ + size′ ≤ length (strandSheet first second chore)
   pub shown : r ≡ 0 → MarksShown first second person chore r (take size′ (drop start′ (strandSheet first second chore)))
 
--- A whole book with its prices as bytes. The price list has a fourth as many entries as bytes.
+-- A whole book: `allocate_book(book, owners, prices, scratch)`. The price list has a fourth as many entries as bytes.
 pub record BookInBytes (book owners prices scratch owners′ prices′ scratch′ : List ℕ) (answer : BookResult) : Type 0 where
-  -- the promise of the Rattle call, demand 3 in it, on the prices as numbers
+  -- what is promised of a book, demand 3 in it, on the prices as numbers
   pub numbers : List ℕ
   pub allocated : BookAllocated book owners (pricesIn prices) scratch owners′ numbers scratch′ answer
   -- the bytes of the accepted sheets' prices are written; all bytes after them are kept, and all of them with a refusal

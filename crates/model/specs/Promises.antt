@@ -204,7 +204,7 @@ pub record BookNotShared (k : ℕ) (owners prices scratch owners′ prices′ sc
   pub pricesKept : prices′ ≡ prices
   pub scratchKept : scratch′ ≡ scratch
 
--- The whole book: `allocate_book(book, owners, prices, scratch)`.
+-- The whole book. `allocate_book` is lent its prices as bytes, and promises this of the numbers that they hold: `BookInBytes` of `cmodel`.
 pub record BookAllocated (book owners prices scratch owners′ prices′ scratch′ : List ℕ) (r : BookResult) : Type 0 where
   pub notRefused : bookRefusal book (length owners) (length prices) (length scratch) ≡ 0 → BookSharedOut book owners prices scratch owners′ prices′ scratch′ r
   pub turnedDown :
