@@ -6,15 +6,16 @@ use mathlib.Core.Path.{_≡_, refl, sym, ap, _∙_}
 use native.Mathlib.Omega.{arith}
 use lib.ListN.{length, take, drop, replicate}
 use lib.Seq.{take-append-seam, drop-append-seam}
+use Rattle.finite.proofs.Below.{by-same}
 use Rattle.model.specs.declared.ShareOut.{ShareOut}
-use Rattle.model.specs.Limits.{scratchSize}
+use Rattle.model.specs.Limits.{maxChores, scratchSize}
 use Rattle.model.specs.Sheet.{choresOf, asRead}
 use Rattle.model.specs.Refusals.{_orElse_, sheetRefusal, lentRefusal, allocateRefusal}
 use Rattle.model.specs.Replies.{refused}
 use Rattle.model.specs.Promises.{Allocated}
 use Rattle.sheet.specs.Valid.{Valid}
-use Rattle.sheet.proofs.OrElse.{or-else-zero}
-use Rattle.sheet.proofs.Refusal.{valid, lent-room}
+use Rattle.sheet.proofs.OrElse.{or-else-next, or-else-first, or-else-none, or-else-zero}
+use Rattle.sheet.proofs.Refusal.{valid, lent-ok, lent-room}
 use Rattle.algorithm.proofs.Theorem.{demand3-of, few-of}
 use Rattle.steps.specs.Turns.{stateOf}
 use Rattle.allocation.specs.Shared.{Shared, SharedWith}
@@ -34,6 +35,16 @@ is-fine s owners prices scratch e =
     let two = or-else-zero (lentRefusal (choresOf s) owners) (lentRefusal (choresOf s) prices orElse lentRefusal scratchSize scratch) (one .1) in
     let three = or-else-zero (lentRefusal (choresOf s) prices) (lentRefusal scratchSize scratch) (two .1) in
     record { unbroken = one .0; valid = valid s (one .0); ownersRoom = lent-room (two .0); pricesRoom = lent-room (three .0) }
+
+-- the sheet alone decides, where there is room for any sheet
+pub sheet-decides : (s : List ℕ) (owners prices scratch : ℕ) → maxChores ≤ owners → maxChores ≤ prices → scratchSize ≤ scratch → allocateRefusal s owners prices scratch ≡ sheetRefusal s
+unfolding allocateRefusal
+sheet-decides s owners prices scratch o p c =
+    by-same (sheetRefusal s) 0
+    (λ z.
+    let few = valid s z .choresFit in
+    or-else-next _ z ∙ or-else-none (lent-ok (omega (arith, few))) (or-else-none (lent-ok (omega (arith, few))) (lent-ok c)) ∙ sym z)
+    (λ h. or-else-first _ h)
 
 -- a list of k entries with another after it
 front : {k : ℕ} (xs ys : List ℕ) → length xs ≡ k → take k (xs ++ ys) ≡ xs

@@ -13,9 +13,8 @@ use Rattle.model.specs.Algorithm.{State}
 use Rattle.model.specs.Refusals.{sheetRefusal, allocateRefusal}
 use Rattle.model.specs.Replies.{refused, shared, shareOutReply}
 use Rattle.model.specs.Promises.{Allocated}
-use Rattle.sheet.proofs.Refusal.{valid, lent-ok}
-use Rattle.sheet.proofs.OrElse.{or-else-next, or-else-first, or-else-none}
 use Rattle.allocation.proofs.Final.{final-demand3}
+use Rattle.allocation.proofs.Accepting.{sheet-decides}
 use Rattle.pricebytes.specs.PriceBytes.{bytesOf, withPrices}
 use Rattle.pricebytes.proofs.Writing.{with-first, with-rest}
 use Rattle.book.specs.Finals.{ownerBytes, priceBytes, entriesIn, answerOf, writtenOf}
@@ -25,17 +24,6 @@ use Rattle.book.proofs.Finals.{answer-shared, entries-shared, written-s
 -- a list whose rest from a on was lent, and is back as ys
 abbrev pub handedBack : List ℕ → ℕ → List ℕ → List ℕ
 handedBack xs a ys = take a xs ++ (ys ++ drop (length xs - a) (drop a xs))
-
--- the sheet alone decides, where there is room for any sheet
-module _ (s : List ℕ) (owners prices scratch : ℕ) (o : maxChores ≤ owners) (p : maxChores ≤ prices) (c : scratchSize ≤ scratch) where
-  sheet-decides : allocateRefusal s owners prices scratch ≡ sheetRefusal s
-  unfolding allocateRefusal
-  sheet-decides =
-      by-same (sheetRefusal s) 0
-      (λ z.
-      let few = valid s z .choresFit in
-      or-else-next _ z ∙ or-else-none (lent-ok (omega (arith, few))) (or-else-none (lent-ok (omega (arith, few))) (lent-ok c)) ∙ sym z)
-      (λ h. or-else-first _ h)
 
 -- what the share-out leaves of the lists lent to it, whether it takes the sheet or not
 record Left (s owners scratch owners′ numbers′ scratch′ : List ℕ) (out : ShareOut) : Type 0 where
