@@ -10,6 +10,7 @@ use lib.Seq.{getD-append-add}
 use Rattle.finite.specs.Lists.{wordAt}
 use Rattle.model.specs.Record.{Move, moveSize, moveBytes, recordOf}
 use Rattle.records.proofs.Bytes.{record-length}
+use Rattle.text.specs.Text.{joined}
 use Rattle.text.specs.Put.{Put}
 use Rattle.text.specs.Moves.{numbersLine, moveLine, moveLines, moveMost, moveRoom, lineAt, linesTo, Moved, PutMoves}
 use Rattle.text.proofs.Putting.{put-nothing, put-then, put-more}
@@ -39,19 +40,19 @@ module _ (t : Move) (rest : List ℕ) where
       cc (high, low, giver, receiver, round, step)
 
   lines-after : (k : ℕ) → linesTo (moveBytes t ++ rest) (suc k) ≡ moveLine t ++ linesTo rest k
-  unfolding linesTo
+  unfolding joined
   lines-after zero = line-first ∙ sym (append-nil _)
   lines-after (suc k) = ap₂ _++_ (lines-after k) (line-after k) ∙ append-assoc (moveLine t) (linesTo rest k) (lineAt rest k)
 
 lines-are : (ts : List Move) → linesTo (recordOf ts) (length ts) ≡ moveLines ts
-unfolding linesTo recordOf moveLines
+unfolding joined recordOf moveLines
 lines-are [] = refl
 lines-are (t ∷ ts) = lines-after t (recordOf ts) (length ts) ∙ ap (λ l. moveLine t ++ l) (lines-are ts)
 
 -- from one line to the next
 module _ (bytes : List ℕ) {out : List ℕ} {at : ℕ} where
   pub moves-begin : Moved bytes out at out at 0
-  unfolding linesTo
+  unfolding joined
   moves-begin = record { within = omega arith; sized = refl; put = put-more put-nothing (omega arith) }
 
   module _ {out′ : List ℕ} {end k : ℕ} (P : Moved bytes out at out′ end k) where
@@ -59,7 +60,7 @@ module _ (bytes : List ℕ) {out : List ℕ} {at : ℕ} where
     moves-room l room = omega (arith, P .put .few, P .sized)
 
     pub moves-next : {out″ : List ℕ} {r : ℕ} → k < length bytes / moveSize → Put moveMost (lineAt bytes k) out′ end out″ r → length out″ ≡ length out′ → Moved bytes out at out″ r (k + 1)
-    unfolding linesTo
+    unfolding joined
     moves-next l Q same =
         let both = put-then (P .put) Q in
         let more = ap (linesTo bytes) (add-one k) in

@@ -1,12 +1,12 @@
 -- Document 02, request 1: "for each move, in the order made, the reel, the giver, the receiver, the round and the step", as lines of text; and
 -- those lines read off the bytes of a record.
-use Prim.Native.Nat.{ℕ, zero, suc, _+_, _*_, _/_, _≤_, _<_}
+use Prim.Native.Nat.{ℕ, _+_, _*_, _/_, _≤_, _<_}
 use mathlib.Core.List.{List, [], _∷_, _++_}
 use mathlib.Core.Path.{_≡_}
 use lib.ListN.{length, getD}
 use Rattle.finite.specs.Lists.{wordAt}
 use Rattle.model.specs.Record.{Move, moveSize, recordOf}
-use Rattle.text.specs.Text.{ascii, field, newline}
+use Rattle.text.specs.Text.{ascii, field, newline, joined}
 use Rattle.text.specs.Put.{Put}
 
 -- one move, as `reel 5 from 1 to 2 round 1 step 2`: all numbers count from 1
@@ -44,9 +44,8 @@ module _ (bytes : List ℕ) where
       numbersLine (wordAt bytes (moveSize * k)) (getD bytes (moveSize * k + 2) 0) (getD bytes (moveSize * k + 3) 0) (getD bytes (moveSize * k + 4) 0) (getD bytes (moveSize * k + 5) 0)
 
   -- the lines of the first k moves
-  unfoldable pub linesTo : ℕ → List ℕ
-  linesTo zero = []
-  linesTo (suc k) = linesTo k ++ lineAt k
+  abbrev pub linesTo : ℕ → List ℕ
+  linesTo = joined lineAt
 
   -- so many lines are in the buffer: the loop of `moves_text`
   pub record Moved (out : List ℕ) (at : ℕ) (out′ : List ℕ) (r k : ℕ) : Type 0 where

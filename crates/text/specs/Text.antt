@@ -31,3 +31,8 @@ spaced (x ∷ xs) = field (ascii " ") x ++ spaced xs
 
 abbrev pub newline : List ℕ
 newline = 10 ∷ []
+
+-- the first j of some texts, one after the other
+unfoldable pub joined : (ℕ → List ℕ) → ℕ → List ℕ
+joined texts zero = []
+joined texts (suc j) = joined texts j ++ texts j
