@@ -6,3 +6,8 @@ pub fn put(fd: i32, text: &[u8], failure: &[u8]) -> bool {
     os::fail(failure);
     false
 }
+
+// Nothing goes out after a text that did not: `whole` tells whether all before this one did.
+pub fn put_next(whole: bool, fd: i32, text: &[u8], failure: &[u8]) -> bool {
+    whole && put(fd, text, failure)
+}

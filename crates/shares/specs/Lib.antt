@@ -1,3 +1,2 @@
 pub mod Page
-pub mod Room
-pub mod Answered
+pub mod Printed

@@ -1,13 +1,14 @@
 -- Document 01, "What `shares` prints": the whole text for a book. `finals j` is the state in which sheet j, counted from 0, ends.
-use Prim.Native.Nat.{ℕ, zero, suc, _+_, _<_}
+use Prim.Native.Nat.{ℕ, _+_, _<_}
 use mathlib.Core.Bool.{cond, true}
-use mathlib.Core.List.{List, [], _++_}
+use mathlib.Core.List.{List, _++_}
 use mathlib.Core.Path.{_≡_}
 use Rattle.model.specs.Contents.{sheetCount, sheetOf}
 use Rattle.model.specs.Algorithm.{State}
 use Rattle.model.specs.Refusals.{contentsRefusal}
 use Rattle.model.specs.Book.{ownRefusal, takesSheet, tallyOf}
 use Rattle.model.specs.Promises.{Demand3}
+use Rattle.text.specs.Text.{joined}
 use Rattle.text.specs.Lines.{sheetLine, ownersLine, pricesLine, refusedLine, bookRefusedLine, totalLine}
 
 -- "Each accepted sheet prints three lines"
@@ -24,8 +25,7 @@ module _ (book : List ℕ) (finals : ℕ → State) where
 
   -- the first j sheets
   unfoldable pub sheetsText : ℕ → List ℕ
-  sheetsText zero = []
-  sheetsText (suc j) = sheetsText j ++ sheetText j
+  sheetsText j = joined sheetText j
 
   unfoldable pub bookText : List ℕ
   bookText = sheetsText (sheetCount book) ++ totalLine (tallyOf book finals (λ x. x .moves)) (tallyOf book finals (λ x. x .cuts))

@@ -4,27 +4,61 @@ mod page;
 use libc::STDERR_FILENO;
 use libc::STDIN_FILENO;
 use libc::STDOUT_FILENO;
+use pages::LastText;
 use program::arguments;
 use program::arguments::Asked;
 use program::input;
 use program::input::ReadResult;
 use program::output;
+ghost use Prim.Native.Nat.{_≤_};
+ghost use lib.ListN.{length};
+ghost use Rattle.pages.specs.Printer.{lastOf};
+ghost use Rattle.pages.specs.Printing.{Shows};
+ghost use Rattle.shares.specs.Printed.{textRoom, printer};
 
-fn put(fd: i32, text: &[u8]) {
-    output::put(fd, text, b"shares: write error");
+// `whole` tells whether all before it went out.
+fn put(whole: bool, fd: i32, text: &[u8]) -> bool {
+    output::put_next(whole, fd, text, b"shares: write error")
 }
 
 fn put_usage(fd: i32) {
     put(
+        true,
         fd,
         b"usage: shares < BOOK\nShares out every sheet of the book on standard input. See shares(1).\n",
     );
 }
 
+fn put_version() {
+    put(true, STDOUT_FILENO, b"shares 6.2.9\n");
+}
+
+// The sheets, each as soon as its text is made. What comes after them is left in the buffer.
+fn print_sheets(book: &[u8], out: &mut [u8]) -> LastText
+    requires { ⌜ textRoom ≤ length (now out) ⌝ }
+    ensures { λ r. ⌜ Shows (lastOf printer (now (book .entry))) (now (out .exit)) (r .end) ⌝ }
+{
+    let k = pages::sheets(book);
+    let mut total = tally::none();
+    let mut whole = true;
+    let mut j = 0;
+    while j < k {
+        let shown = page::sheet_text(book, j, out);
+        let end = shown.end;
+        let answer = shown.answer;
+        whole = put(whole, STDOUT_FILENO, &out[0..end]);
+        total = tally::tallied(total, answer);
+        j += 1;
+    }
+    let end = pages::last_text(book, total, out);
+    LastText { end, whole }
+}
+
 fn print_book(book: &[u8]) {
     let mut out = io::large_buffer();
-    let end = page::book_text(book, &mut out);
-    put(STDOUT_FILENO, &out[..end]);
+    let last = print_sheets(book, &mut out);
+    let end = last.end;
+    put(last.whole, STDOUT_FILENO, &out[..end]);
 }
 
 // The buffer has one byte more than the longest book, so that a longer one is seen by its length, and turned down.
@@ -40,7 +74,7 @@ fn main() {
     match arguments::what_is_asked() {
         Asked::Run => share_out(),
         Asked::Help => put_usage(STDOUT_FILENO),
-        Asked::Version => put(STDOUT_FILENO, b"shares 6.2.8\n"),
+        Asked::Version => put_version(),
         Asked::Unknown => put_usage(STDERR_FILENO),
     }
 }

@@ -1,13 +1,15 @@
-// The text of a whole book: one buffer holds it, whatever the book, so that it is written by one call.
+// The text of a sheet of a book.
+use pages::SheetText;
 use text::lines;
-ghost use Prim.Native.Nat.{_+_, _≤_};
-ghost use mathlib.Core.Path.{_≡_};
+ghost use Prim.Native.Nat.{_≤_};
 ghost use lib.ListN.{length};
-ghost use Rattle.model.specs.Limits.{scratchSize, bookEntries};
+ghost use Rattle.contents.specs.Fits.{SheetInBook};
 ghost use Rattle.text.specs.Put.{Put};
+ghost use Rattle.pages.specs.Printer.{textOf};
+ghost use Rattle.pages.specs.Printing.{SheetShown};
+ghost use Rattle.pages.specs.Answered.{Answered};
 ghost use Rattle.shares.specs.Page.{sharedLines};
-ghost use Rattle.shares.specs.Room.{sheetMost, sheetRoom, sheetsMost, pageRoom, Wide};
-ghost use Rattle.shares.specs.Answered.{answerText, answersText, Readable, Handed, Allotted, Paged};
+ghost use Rattle.shares.specs.Printed.{textMost, textRoom, Wide, printer};
 
 // The three lines of an accepted sheet.
 fn shared_lines(
@@ -17,115 +19,55 @@ fn shared_lines(
     owners: &[u8],
     prices: &[u32],
     out: &mut [u8],
-    at: usize,
 ) -> usize
-    requires { ⌜ Wide (now owners) (now prices) (now out) at ⌝ }
-    ensures { λ r. ⌜ Put sheetMost (sharedLines number moves cuts (now (owners .entry)) (now (prices .entry))) (now (out .entry)) at (now (out .exit)) r ⌝ }
+    requires { ⌜ Wide (now owners) (now prices) (now out) ⌝ }
+    ensures { λ r. ⌜ Put textMost (sharedLines number moves cuts (now (owners .entry)) (now (prices .entry))) (now (out .entry)) 0 (now (out .exit)) r ⌝ }
 {
-    let a = lines::sheet_line(number, moves, cuts, out, at);
+    let a = lines::sheet_line(number, moves, cuts, out, 0);
     let b = lines::owners_line(owners, out, a);
     lines::prices_line(prices, out, b)
 }
 
-// The lines of sheet `j`, counted from 0 and numbered from 1.
-fn sheet_text(
-    book: &[u8],
-    j: usize,
-    answer: model::SheetResult,
+// An accepted sheet's entries stand first in the lists.
+fn answer_text(
+    sheet: &[u8],
+    number: u64,
+    answer: model::ShareOut,
     owners: &[u8],
     prices: &[u32],
     out: &mut [u8],
-    at: usize,
 ) -> usize
-    requires { ⌜ Readable (now book) (now owners) (now prices) j answer ⌝ }
-    requires { ⌜ at + sheetRoom ≤ length (now out) ⌝ }
-    ensures { λ r. ⌜ Put sheetMost (answerText (now (book .entry)) (now (owners .entry)) (now (prices .entry)) j answer) (now (out .entry)) at (now (out .exit)) r ⌝ }
+    requires { ⌜ Answered printer (now sheet) (now owners) (now prices) answer ⌝ }
+    requires { ⌜ textRoom ≤ length (now out) ⌝ }
+    ensures { λ r. ⌜ Put textMost (textOf printer (now (sheet .entry)) number) (now (out .entry)) 0 (now (out .exit)) r ⌝ }
 {
-    let number = j as u64 + 1;
     match answer {
-        model::SheetResult::Absent => at,
-        model::SheetResult::Refused(refusal) => {
-            lines::refused_line(number, refusal as u64, out, at)
+        model::ShareOut::Refused(refusal) => lines::refused_line(number, refusal as u64, out, 0),
+        model::ShareOut::Shared { moves, cuts } => {
+            let m = sheet::chores(sheet);
+            shared_lines(
+                number,
+                moves,
+                cuts as u64,
+                &owners[0..m],
+                &prices[0..m],
+                out,
+            )
         }
-        model::SheetResult::Shared { moves, cuts, first } => {
-            let end = first + sheet::chores(contents::sheet_at(book, j));
-            let of_owners = &owners[first..end];
-            let of_prices = &prices[first..end];
-            shared_lines(number, moves, cuts as u64, of_owners, of_prices, out, at)
-        }
     }
 }
 
-fn sheets_text(
-    book: &[u8],
-    result: model::BookResult,
-    owners: &[u8],
-    prices: &[u32],
-    out: &mut [u8],
-) -> usize
-    requires { ⌜ Allotted (now book) (now owners) (now prices) result ⌝ }
-    requires { ⌜ pageRoom ≤ length (now out) ⌝ }
-    ensures { λ r. ⌜ Put sheetsMost (answersText (now (book .entry)) (now (owners .entry)) (now (prices .entry)) (result .sheets) (result .count)) (now (out .entry)) 0 (now (out .exit)) r ⌝ }
+// Sheet j, counted from 0 and numbered from 1.
+pub fn sheet_text(book: &[u8], j: usize, out: &mut [u8]) -> SheetText
+    requires { ⌜ SheetInBook (now book) j ⌝ }
+    requires { ⌜ textRoom ≤ length (now out) ⌝ }
+    ensures { λ r. ⌜ SheetShown printer (now (book .entry)) j (now (out .exit)) r ⌝ }
 {
-    let sheets = result.sheets;
-    let k = result.count as usize;
-    let mut at = 0;
-    let mut j = 0;
-    while j < k {
-        let entry = sheets[j];
-        let answer = entry.result;
-        at = sheet_text(book, j, answer, owners, prices, out, at);
-        j += 1;
-    }
-    at
-}
-
-fn result_text(
-    book: &[u8],
-    result: model::BookResult,
-    owners: &[u8],
-    prices: &[u32],
-    out: &mut [u8],
-) -> usize
-    requires { ⌜ Handed (now book) (now owners) (now prices) result ⌝ }
-    requires { ⌜ pageRoom ≤ length (now out) ⌝ }
-    ensures { λ r. ⌜ Paged (now (book .entry)) (now (out .exit)) r ⌝ }
-{
-    let refusal = result.refusal;
-    if refusal != 0 {
-        return lines::book_refused_line(refusal as u64, out, 0);
-    }
-    let total = result.tally;
-    let at = sheets_text(book, result, owners, prices, out);
-    lines::total_line(total.moves, total.cuts, out, at)
-}
-
-// Each list is made by a function of its own, whose contract tells its length and spares the callers its entries.
-fn no_owners() -> [u8; model::BOOK_ENTRIES]
-    ensures { λ r. ⌜ bookEntries ≡ length r ⌝ }
-{
-    [0; model::BOOK_ENTRIES]
-}
-
-fn no_prices() -> [u32; model::BOOK_ENTRIES]
-    ensures { λ r. ⌜ bookEntries ≡ length r ⌝ }
-{
-    [0; model::BOOK_ENTRIES]
-}
-
-fn no_scratch() -> [u8; model::SCRATCH_SIZE]
-    ensures { λ r. ⌜ scratchSize ≡ length r ⌝ }
-{
-    [0; model::SCRATCH_SIZE]
-}
-
-pub fn book_text(book: &[u8], out: &mut [u8]) -> usize
-    requires { ⌜ pageRoom ≤ length (now out) ⌝ }
-    ensures { λ r. ⌜ Paged (now (book .entry)) (now (out .exit)) r ⌝ }
-{
-    let mut owners = no_owners();
-    let mut prices = no_prices();
-    let mut scratch = no_scratch();
-    let result = book::allocate_book(book, &mut owners, &mut prices, &mut scratch);
-    result_text(book, result, &owners, &prices, out)
+    let sheet = contents::sheet_at(book, j);
+    let mut owners = pages::no_owners();
+    let mut prices = pages::no_prices();
+    let mut scratch = pages::no_scratch();
+    let answer = allocation::allocate(sheet, &mut owners, &mut prices, &mut scratch);
+    let end = answer_text(sheet, j as u64 + 1, answer, &owners, &prices, out);
+    SheetText { end, answer }
 }

@@ -22,10 +22,10 @@ use Rattle.model.specs.Promises.{Demand3, RunMoves}
 use Rattle.model.specs.Cases.{marks, allMarks, firstRow, sheet}
 use Rattle.model.specs.Starred.{sheetC}
 use Rattle.model.proofs.Unique.{same-moves}
-use Rattle.text.specs.Text.{ascii, digitsIn, decimal, field, spaced}
+use Rattle.text.specs.Text.{ascii, digitsIn, decimal, field, spaced, joined}
 use Rattle.text.specs.Lines.{sheetLine, listLine, openingLine, ownersLine, pricesLine, totalLine}
 use Rattle.text.specs.Moves.{numbersLine, moveLine, moveLines}
-use Rattle.why.specs.Page.{runLines, runRefusal, runText, adds, sheetText, joined, tallyTo, lastLine, bookText, Runs}
+use Rattle.why.specs.Page.{runLines, runRefusal, runText, adds, sheetText, tallyTo, lastLine, bookText, Runs}
 
 -- its contents, and then the sheet
 unfoldable pub bookC : List ℕ

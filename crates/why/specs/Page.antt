@@ -1,8 +1,8 @@
 -- What `why` prints for a book: document 01's text for `shares`, and between the lines of an accepted sheet its run, since "Subtitlers accept
 -- a list sooner when they can follow it" (document 02, request 1).
-use Prim.Native.Nat.{ℕ, zero, suc, _+_, _<_}
+use Prim.Native.Nat.{ℕ, _+_, _<_}
 use mathlib.Core.Bool.{cond}
-use mathlib.Core.List.{List, [], _++_}
+use mathlib.Core.List.{List, _++_}
 use mathlib.Core.Path.{_≡_}
 use lib.Dec.{eqb}
 use lib.ListN.{length}
@@ -11,14 +11,15 @@ use Rattle.model.specs.Sheet.{asRead}
 use Rattle.model.specs.Contents.{sheetCount, sheetOf}
 use Rattle.model.specs.Algorithm.{State, opening}
 use Rattle.model.specs.Record.{Move}
-use Rattle.model.specs.Refusals.{_orElse_, sheetRefusal, recordRefusal}
+use Rattle.model.specs.Refusals.{_orElse_, sheetRefusal, recordRefusal, contentsRefusal}
 use Rattle.model.specs.Promises.{Demand3, RunMoves}
-use Rattle.text.specs.Lines.{sheetLine, openingLine, ownersLine, pricesLine, refusedLine, totalLine}
+use Rattle.text.specs.Text.{joined}
+use Rattle.text.specs.Lines.{sheetLine, openingLine, ownersLine, pricesLine, refusedLine, bookRefusedLine, totalLine}
 use Rattle.text.specs.Moves.{moveLines}
 
--- the bytes of the record that is lent to each share-out, enough for 10,922 moves
+-- the bytes of the record that is lent to each share-out, enough for 20,000 moves
 abbrev pub recordSize : ℕ
-recordSize = 65532
+recordSize = 120000
 
 -- An accepted sheet: "its number with its moves and cuts"; "the opening list"; "for each move, in the order made, the reel, the giver, the
 -- receiver, the round and the step"; then "its owners by reel; its prices by reel".
@@ -42,11 +43,6 @@ module _ (s : List ℕ) (final : State) (moves : List Move) where
   unfoldable pub adds : (State → ℕ) → ℕ
   adds counted = cond (eqb (runRefusal s moves) 0) (counted final) 0
 
--- the first j of some texts, one after the other
-unfoldable pub joined : (ℕ → List ℕ) → ℕ → List ℕ
-joined texts zero = []
-joined texts (suc j) = joined texts j ++ texts j
-
 -- A book. `finals j` is the state in which sheet j, counted from 0, ends, and `moves j` are the moves of its run.
 module _ (book : List ℕ) (finals : ℕ → State) (moves : ℕ → List Move) where
   unfoldable pub sheetText : ℕ → List ℕ
@@ -68,9 +64,14 @@ pub record Runs (book : List ℕ) (finals : ℕ → State) (moves : ℕ → List
   pub demand3 : (j : ℕ) → j < sheetCount book → sheetRefusal (sheetOf book j) ≡ 0 → Demand3 (sheetOf book j) (finals j)
   pub runs : (j : ℕ) → j < sheetCount book → sheetRefusal (sheetOf book j) ≡ 0 → RunMoves (sheetOf book j) (moves j)
 
--- the text of a book that is not refused; "a refused book" prints "only `book refused 9`"
+-- the text of a book that is not refused
 pub record Shown (book text : List ℕ) : Type 0 where
   pub finals : ℕ → State
   pub moves : ℕ → List Move
   pub runs : Runs book finals moves
   pub shows : text ≡ bookText book finals moves
+
+-- the text of any book; "a refused book" prints "only `book refused 9`"
+pub record Printed (book text : List ℕ) : Type 0 where
+  pub notRefused : contentsRefusal book ≡ 0 → Shown book text
+  pub turnedDown : (contentsRefusal book ≡ 0 → ⊥) → text ≡ bookRefusedLine (contentsRefusal book)

@@ -2,53 +2,44 @@
 mod page;
 mod told;
 
-ghost use Prim.Native.Nat.{_≤_};
-ghost use lib.ListN.{length};
-ghost use Rattle.why.specs.Told.{textRoom};
-ghost use Rattle.why.specs.Printing.{Tallied};
 use libc::STDERR_FILENO;
 use libc::STDIN_FILENO;
 use libc::STDOUT_FILENO;
+use pages::LastText;
 use program::arguments;
 use program::arguments::Asked;
 use program::input;
 use program::input::ReadResult;
 use program::output;
+ghost use Prim.Native.Nat.{_≤_};
+ghost use lib.ListN.{length};
+ghost use Rattle.pages.specs.Printer.{lastOf};
+ghost use Rattle.pages.specs.Printing.{Shows};
+ghost use Rattle.why.specs.Told.{printer, textRoom};
 
-// The tally of the accepted sheets, and whether all that was printed went out.
-struct Printed {
-    total: model::Tally,
-    whole: bool,
-}
-
-fn put(fd: i32, text: &[u8]) -> bool {
-    output::put(fd, text, b"why: write error")
+// `whole` tells whether all before it went out.
+fn put(whole: bool, fd: i32, text: &[u8]) -> bool {
+    output::put_next(whole, fd, text, b"why: write error")
 }
 
 fn put_usage(fd: i32) {
     put(
+        true,
         fd,
         b"usage: why < BOOK\nShows every move of the share-outs of the book on standard input. See why(1).\n",
     );
 }
 
 fn put_version() {
-    put(STDOUT_FILENO, b"why 6.2.8\n");
+    put(true, STDOUT_FILENO, b"why 6.2.9\n");
 }
 
-// Nothing goes out after a text that did not.
-fn put_next(whole: bool, text: &[u8]) -> bool {
-    if !whole {
-        return false;
-    }
-    put(STDOUT_FILENO, text)
-}
-
-fn print_sheets(book: &[u8], out: &mut [u8]) -> Printed
+// The sheets, each as soon as its text is made. What comes after them is left in the buffer.
+fn print_sheets(book: &[u8], out: &mut [u8]) -> LastText
     requires { ⌜ textRoom ≤ length (now out) ⌝ }
-    ensures { λ r. ⌜ Tallied (now (book .entry)) (r .total) ⌝ }
+    ensures { λ r. ⌜ Shows (lastOf printer (now (book .entry))) (now (out .exit)) (r .end) ⌝ }
 {
-    let k = page::sheets(book);
+    let k = pages::sheets(book);
     let mut total = tally::none();
     let mut whole = true;
     let mut j = 0;
@@ -56,19 +47,19 @@ fn print_sheets(book: &[u8], out: &mut [u8]) -> Printed
         let shown = page::sheet_text(book, j, out);
         let end = shown.end;
         let answer = shown.answer;
-        whole = put_next(whole, &out[0..end]);
+        whole = put(whole, STDOUT_FILENO, &out[0..end]);
         total = tally::tallied(total, answer);
         j += 1;
     }
-    Printed { total, whole }
+    let end = pages::last_text(book, total, out);
+    LastText { end, whole }
 }
 
 fn print_book(book: &[u8]) {
     let mut out = page::no_text();
-    let printed = print_sheets(book, &mut out);
-    let total = printed.total;
-    let end = page::last_text(book, total, &mut out);
-    put_next(printed.whole, &out[..end]);
+    let last = print_sheets(book, &mut out);
+    let end = last.end;
+    put(last.whole, STDOUT_FILENO, &out[..end]);
 }
 
 // The buffer has one byte more than the longest book, so that a longer one is seen by its length, and turned down.

@@ -5,24 +5,12 @@ use text::moves;
 ghost use Prim.Native.Nat.{_≤_};
 ghost use mathlib.Core.Path.{_≡_};
 ghost use lib.ListN.{length};
-ghost use Rattle.model.specs.Limits.{maxChores};
 ghost use Rattle.model.specs.Sheet.{asRead};
 ghost use Rattle.model.specs.Algorithm.{opening};
 ghost use Rattle.text.specs.Put.{Put};
-ghost use Rattle.why.specs.Told.{textMost, textRoom, textOf, Wide, PutRun, Opening, Left, Answered, Openable};
-
-// Each list is made by a function of its own, whose contract tells its length and spares the callers its entries.
-pub fn no_owners() -> [u8; model::MAX_CHORES]
-    ensures { λ r. ⌜ maxChores ≡ length r ⌝ }
-{
-    [0; model::MAX_CHORES]
-}
-
-pub fn no_prices() -> [u32; model::MAX_CHORES]
-    ensures { λ r. ⌜ maxChores ≡ length r ⌝ }
-{
-    [0; model::MAX_CHORES]
-}
+ghost use Rattle.pages.specs.Printer.{textOf};
+ghost use Rattle.pages.specs.Answered.{Left, Answered};
+ghost use Rattle.why.specs.Told.{printer, textMost, textRoom, Wide, PutRun, Openable, Opening, Noted, NotedIf};
 
 // The opening list. Its prices, and who likes what, are left here.
 fn opening_owners(sheet: &[u8], owners: &mut [u8])
@@ -31,8 +19,8 @@ fn opening_owners(sheet: &[u8], owners: &mut [u8])
 {
     let n = sheet::agents(sheet);
     let m = sheet::chores(sheet);
-    let mut prices = no_prices();
-    let mut likes = no_prices();
+    let mut prices = pages::no_prices();
+    let mut likes = pages::no_prices();
     open(sheet, n, m, owners, &mut prices[0..m], &mut likes[0..m]);
 }
 
@@ -70,7 +58,7 @@ fn opened_text(
 ) -> usize
     requires { ⌜ Opening (now sheet) count cuts (now owners) (now prices) (now bytes) (now opened) ⌝ }
     requires { ⌜ textRoom ≤ length (now out) ⌝ }
-    ensures { λ r. ⌜ Put textMost (textOf (now (sheet .entry)) number) (now (out .entry)) 0 (now (out .exit)) r ⌝ }
+    ensures { λ r. ⌜ Put textMost (textOf printer (now (sheet .entry)) number) (now (out .entry)) 0 (now (out .exit)) r ⌝ }
 {
     opening_owners(sheet, opened);
     run_lines(number, count, cuts, opened, bytes, owners, prices, out)
@@ -87,13 +75,14 @@ fn shared_text(
     bytes: &[u8],
     out: &mut [u8],
 ) -> usize
-    requires { ⌜ Left (now sheet) count cuts (now owners) (now prices) (now bytes) ⌝ }
+    requires { ⌜ Left printer (now sheet) count cuts (now owners) (now prices) ⌝ }
+    requires { ⌜ Noted (now sheet) (now bytes) ⌝ }
     requires { ⌜ textRoom ≤ length (now out) ⌝ }
-    ensures { λ r. ⌜ Put textMost (textOf (now (sheet .entry)) number) (now (out .entry)) 0 (now (out .exit)) r ⌝ }
+    ensures { λ r. ⌜ Put textMost (textOf printer (now (sheet .entry)) number) (now (out .entry)) 0 (now (out .exit)) r ⌝ }
 {
     let m = sheet::chores(sheet);
     let end = model::MOVE_SIZE * count as usize;
-    let mut opened = no_owners();
+    let mut opened = pages::no_owners();
     opened_text(
         sheet,
         number,
@@ -116,9 +105,10 @@ pub fn answer_text(
     bytes: &[u8],
     out: &mut [u8],
 ) -> usize
-    requires { ⌜ Answered (now sheet) (now owners) (now prices) (now bytes) answer ⌝ }
+    requires { ⌜ Answered printer (now sheet) (now owners) (now prices) answer ⌝ }
+    requires { ⌜ NotedIf (now sheet) (now bytes) ⌝ }
     requires { ⌜ textRoom ≤ length (now out) ⌝ }
-    ensures { λ r. ⌜ Put textMost (textOf (now (sheet .entry)) number) (now (out .entry)) 0 (now (out .exit)) r ⌝ }
+    ensures { λ r. ⌜ Put textMost (textOf printer (now (sheet .entry)) number) (now (out .entry)) 0 (now (out .exit)) r ⌝ }
 {
     match answer {
         model::ShareOut::Refused(refusal) => lines::refused_line(number, refusal as u64, out, 0),

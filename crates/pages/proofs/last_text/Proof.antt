@@ -1,11 +1,11 @@
--- `why::page::last_text` meets its contract: a refused book by its number, any other by its tally.
+-- `pages::last_text` meets its contract: a refused book by its number, any other by its tally.
 -- Assumes nothing.
 use mathlib.Core.Path.{sym, _∙_}
 use native.Mathlib.Omega.{arith}
 use borrow.Author.Needs.{needs}
-use Rattle.why.proofs.Printing.{ends-total, ends-refused}
-use Rattle.why.proofs.page.last_text.Statement.{statement}
-use Rattle.why.proofs.page.last_text.Tie as tie
+use Rattle.pages.proofs.Printing.{shown, ends-total, ends-refused}
+use Rattle.pages.proofs.last_text.Statement.{statement}
+use Rattle.pages.proofs.last_text.Tie as tie
 
 contents-refusal-requires : tie.Need-contents-refusal-requires
 contents-refusal-requires c κs = search needs
@@ -23,7 +23,8 @@ returns : tie.Need-returns
 returns c =
     let line = c .before .before .book-refused-line in
     let test = c .before .before .before .before in
-    ends-refused _ (test .before .contents-refusal .ensures) (test .if1 .taken) (line .ensures) (omega (arith, line .kept .1 .0, test .before .before .before .before .pre .1))
+    let is = test .before .contents-refusal .ensures in
+    rw (ends-refused _ (λ z. test .if1 .taken (is ∙ z)), ← is) (shown (line .ensures) (omega (arith, line .kept .1 .0, test .before .before .before .before .pre)))
 
 total-line-requires : tie.Need-total-line-requires
 total-line-requires c κs = search needs
@@ -35,8 +36,7 @@ returns-2 : tie.Need-returns-2
 returns-2 c =
     let line = c .before .before .total-line in
     let test = c .before .before .before .before in
-    let pre = test .before .before .before .before .pre in
-    ends-total _ (sym (test .before .contents-refusal .ensures) ∙ test .if1 .left) (pre .0) (line .ensures) (omega (arith, line .kept .1 .1 .0, pre .1))
+    rw (ends-total _ (sym (test .before .contents-refusal .ensures) ∙ test .if1 .left)) (shown (line .ensures) (omega (arith, line .kept .1 .1 .0, test .before .before .before .before .pre)))
 
 pub last-text-spec : {M : Type 1} → statement M
 last-text-spec =

@@ -2,8 +2,9 @@
 -- Assumes nothing.
 use native.Mathlib.Omega.{arith}
 use borrow.Author.Needs.{needs}
-use Rattle.why.proofs.Answering.{answered}
-use Rattle.why.proofs.Printing.{sheet-shown}
+use Rattle.pages.proofs.Printing.{sheet-shown}
+use Rattle.why.specs.Told.{printer}
+use Rattle.why.proofs.Answering.{answered, noted}
 use Rattle.why.proofs.page.sheet_text.Statement.{statement}
 use Rattle.why.proofs.page.sheet_text.Tie as tie
 
@@ -52,11 +53,11 @@ slice-aggregate-answer-text-3 c = search needs
 answer-text-requires : tie.Need-answer-text-requires
 answer-text-requires c κs =
     let call = c .before .before .before .before .before .before .before .before in
-    let bytes = call .before .before .before .before .before in
-    let lent = bytes .before .before .before in
+    let lent = call .before .before .before .before .before in
     let left = call .allocate-recorded .kept in
-    let A = answered (lent .no-owners .ensures) (bytes .before .before .no-prices .ensures) (bytes .before .no-scratch .ensures) (bytes .no-record .ensures) (left .1 .0) (left .1 .1 .0) (left .1 .1 .1 .1 .0) (call .allocate-recorded .ensures) in
-    (A, lent .before .before .before .before .pre .1)
+    let A = answered (lent .before .before .before .no-owners .ensures) (lent .before .before .no-prices .ensures) (lent .before .no-scratch .ensures) (lent .no-record .ensures) (call .allocate-recorded .ensures) (left .1 .0) (left .1 .1 .0) in
+    let N = noted (lent .before .before .before .no-owners .ensures) (lent .before .before .no-prices .ensures) (lent .before .no-scratch .ensures) (lent .no-record .ensures) (call .allocate-recorded .ensures) (left .1 .1 .1 .1 .0) in
+    (A, (N, lent .before .before .before .before .before .before .before .pre .1))
 
 same-length : tie.Need-same-length
 same-length c = search needs
@@ -64,12 +65,12 @@ same-length c = search needs
 returns : tie.Need-returns
 returns c =
     let call = c .before .before .before .before .before .before .before .before .before .before .before in
-    let bytes = call .before .before .before .before .before in
-    let lent = bytes .before .before .before in
+    let lent = call .before .before .before .before .before in
+    let found = lent .before .before .before .before in
     let left = call .allocate-recorded .kept in
-    let A = answered (lent .no-owners .ensures) (bytes .before .before .no-prices .ensures) (bytes .before .no-scratch .ensures) (bytes .no-record .ensures) (left .1 .0) (left .1 .1 .0) (left .1 .1 .1 .1 .0) (call .allocate-recorded .ensures) in
+    let A = answered (lent .before .before .before .no-owners .ensures) (lent .before .before .no-prices .ensures) (lent .before .no-scratch .ensures) (lent .no-record .ensures) (call .allocate-recorded .ensures) (left .1 .0) (left .1 .1 .0) in
     let told = c .before .before .answer-text in
-    sheet-shown _ (lent .before .sheet-at .ensures) A (told .ensures) (omega (arith, told .kept .1 .1 .1 .1 .1 .1 .0, lent .before .before .before .before .pre .1))
+    sheet-shown printer _ (found .sheet-at .ensures) A (told .ensures) (omega (arith, told .kept .1 .1 .1 .1 .1 .1 .0, found .before .before .before .pre .1))
 
 pub sheet-text-spec : {M : Type 1} → statement M
 sheet-text-spec =

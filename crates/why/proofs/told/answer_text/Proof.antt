@@ -1,7 +1,8 @@
 -- `why::told::answer_text` meets its contract, by the cases of the answer.
 -- Assumes nothing.
+use native.Mathlib.Omega.{arith}
 use borrow.Author.Needs.{needs}
-use Rattle.why.proofs.Telling.{refused-text, shared-left}
+use Rattle.pages.proofs.Answering.{refused-text}
 use Rattle.why.proofs.told.answer_text.Statement.{statement}
 use Rattle.why.proofs.told.answer_text.Tie as tie
 
@@ -23,7 +24,8 @@ cast-shared-text c = search needs
 shared-text-requires : tie.Need-shared-text-requires
 shared-text-requires c κs =
     let pre = c .before .before .before .before .before .before .before .before .before .pre in
-    (shared-left (pre .0) (c .before .before .answer2 .given .1), pre .1)
+    let L = pre .0 .sharedOut _ _ (c .before .before .answer2 .given .1) in
+    (L, (pre .1 .0 (L .accepted), pre .1 .1))
 
 same-length : tie.Need-same-length
 same-length c = search needs
@@ -31,7 +33,7 @@ same-length c = search needs
 returns : tie.Need-returns
 returns c =
     let answer = c .before .before .before .before .before in
-    refused-text (answer .before .before .before .before .before .before .before .pre .0) _ (answer .answer .given .1) (c .before .before .refused-line .ensures)
+    refused-text (answer .before .before .before .before .before .before .before .pre .0) _ (answer .answer .given .1) (c .before .before .refused-line .ensures) (omega arith)
 
 same-length-2 : tie.Need-same-length-2
 same-length-2 c = search needs

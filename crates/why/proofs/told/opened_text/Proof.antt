@@ -1,8 +1,7 @@
 -- `why::told::opened_text` meets its contract.
 -- Assumes nothing.
-use mathlib.Core.Path.{_∙_}
 use borrow.Author.Needs.{needs}
-use Rattle.why.proofs.Telling.{ran-wide, ran-text}
+use Rattle.why.proofs.Telling.{opening-wide, opening-text}
 use Rattle.why.proofs.told.opened_text.Statement.{statement}
 use Rattle.why.proofs.told.opened_text.Tie as tie
 
@@ -15,7 +14,7 @@ run-lines-requires : tie.Need-run-lines-requires
 run-lines-requires c κs =
     let opened = c .before .before .before .before in
     let pre = opened .before .before .before .before .before .before .before .before .pre in
-    ran-wide (pre .0 .ran) (opened .opening-owners .kept .1 .0 ∙ pre .0 .openedSized) (pre .1)
+    opening-wide (pre .0) (opened .opening-owners .kept .1 .0) (pre .1)
 
 same-length : tie.Need-same-length
 same-length c = search needs
@@ -27,7 +26,7 @@ returns : tie.Need-returns
 returns c =
     let lines = c .before .before in
     let opened = lines .before .before .before .before .before in
-    ran-text (opened .before .before .before .before .before .before .before .before .pre .0 .ran) (opened .opening-owners .ensures) (lines .run-lines .ensures)
+    opening-text (opened .before .before .before .before .before .before .before .before .pre .0) _ (opened .opening-owners .ensures) (lines .run-lines .ensures)
 
 pub opened-text-spec : {M : Type 1} → statement M
 opened-text-spec =

@@ -56,7 +56,7 @@ opened-text-requires c κs =
     let opened = c .before .before .before .before .before in
     let chores = opened .before in
     let pre = chores .before .before .before .before .before .before .pre in
-    (left-opening _ (pre .0) (chores .chores .ensures .is) refl (opened .no-owners .ensures), pre .1)
+    (left-opening (pre .0) (pre .1 .0) _ (chores .chores .ensures .is) refl (opened .no-owners .ensures), pre .1 .1)
 
 same-length : tie.Need-same-length
 same-length c = search needs
