@@ -17,13 +17,13 @@ use Rattle.model.specs.Replies.{shareOutReply, refused, shared}
 use Rattle.model.specs.Promises.{SharedOut, NotShared}
 use Rattle.sheet.proofs.Refusal.{valid}
 use Rattle.allocation.specs.Final.{finalOf}
-use Rattle.allocation.proofs.Final.{final-demand3}
+use Rattle.allocation.proofs.Final.{final-demand3, owners-long, prices-long}
 use Rattle.text.specs.Put.{Put}
 use Rattle.text.specs.Lines.{refusedLine}
 use Rattle.text.proofs.Putting.{put-more}
 use Rattle.tally.specs.Counting.{movesIn, cutsIn}
 use Rattle.pages.specs.Printer.{Printer, textOf, addsOf}
-use Rattle.pages.specs.Answered.{Left, Answered}
+use Rattle.pages.specs.Answered.{Ran, Left, Answered}
 
 -- a share-out is turned down with its number, or comes back with its final state
 module _ (P : Printer) {s owners prices scratch owners′ prices′ scratch′ : List ℕ} {number : ℕ} {r : ShareOut} (is : number ≡ P .refusal s) (some : number ≡ 0 → SharedOut s owners prices scratch owners′ prices′ scratch′ r) (none : (number ≡ 0 → ⊥) → NotShared number owners prices scratch owners′ prices′ scratch′ r) where
@@ -69,6 +69,14 @@ module _ (P : Printer) {s owners prices scratch owners′ prices′ scratch′ :
           turnedDown = λ k e. let q : refused k ≡ refused number = sym (ap shareOutReply e) ∙ none h .answer in let same : k ≡ number = cc in record { number = same ∙ is; some = λ w. h (sym same ∙ w) };
           sharedOut = λ count cuts e. let q : shared count cuts ≡ refused number = sym (ap shareOutReply e) ∙ none h .answer in let w : _≡_ {A = ℕ} 0 1 = cc in absurd (omega arith);
         })
+
+-- an accepted sheet has an entry for each chore
+module _ (P : Printer) {s owners prices : List ℕ} {count cuts : ℕ} (z : P .refusal s ≡ 0) (R : Ran s count cuts owners prices) where
+  pub owners-few : length owners ≤ maxChores
+  owners-few = omega (arith, ap length (R .ownersAre), owners-long s (P .unbroken s z), R .valid .choresFit)
+
+  pub prices-few : length prices ≤ maxChores
+  prices-few = omega (arith, ap length (R .pricesAre), prices-long s (P .unbroken s z), R .valid .choresFit)
 
 module _ {P : Printer} {s owners prices : List ℕ} {answer : ShareOut} (A : Answered P s owners prices answer) where
   pub refused-text : {k r most : ℕ} {out out′ : List ℕ} (number : ℕ) → answer ≡ ShareOut.Refused k → Put 56 (refusedLine number k) out 0 out′ r → 56 ≤ most → Put most (textOf P s number) out 0 out′ r

@@ -66,7 +66,7 @@ module _ (book : List ℕ) where
 module _ (P : Printer) (book : List ℕ) where
   pub sheet-shown : {j end most : ℕ} {sheet owners prices out out′ : List ℕ} {answer : ShareOut} → sheet ≡ sheetOf book j → Answered P sheet owners prices answer → Put most (textOf P sheet (j + 1)) out 0 out′ end → most ≤ length out′ → SheetShown P book j out′ (record { end = end; answer = answer })
   unfolding sheetText
-  sheet-shown {j} {out′ = out′} {answer = answer} same A T room =
+  sheet-shown {j} {answer = answer} same A T room =
       record {
         shows = rw (← same) (shown T room);
         moves = adds-moves P answer A ∙ ap (addsOf P (λ x. x .moves)) same;

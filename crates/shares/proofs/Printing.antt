@@ -1,9 +1,8 @@
 -- What `shares` prints: the text of a sheet from what its share-out left, and the text of a book from those of its sheets.
 -- Assumes nothing.
 use Prim.Native.Nat.{ℕ, _-_, _≤_, _<_}
-use mathlib.Core.Bool.{true}
 use mathlib.Core.List.{List, _++_}
-use mathlib.Core.Path.{_≡_, sym, ap, _∙_}
+use mathlib.Core.Path.{_≡_}
 use native.Mathlib.Omega.{arith}
 use lib.ListN.{length, take}
 use borrow.Author.Tests.{eqb-true}
@@ -16,7 +15,7 @@ use Rattle.model.specs.Book.{ownRefusal, takesSheet, overAccepted, tallyOf}
 use Rattle.model.specs.Promises.{Allocated}
 use Rattle.allocation.specs.Final.{finalOf}
 use Rattle.allocation.proofs.Accepting.{sheet-decides}
-use Rattle.allocation.proofs.Final.{final-demand3, owners-long, prices-long}
+use Rattle.allocation.proofs.Final.{final-demand3}
 use Rattle.text.specs.Text.{joined}
 use Rattle.text.specs.Put.{Put}
 use Rattle.pages.specs.Printer.{toPrint, textOf, addsOf, sheetText, tallyTo, lastOf}
@@ -25,7 +24,7 @@ use Rattle.pages.proofs.Answering as answering
 use Rattle.pages.proofs.Printing as printing
 use Rattle.shares.specs.Page as page
 use Rattle.shares.specs.Page.{sharedLines, sheetsText, bookText, Printed}
-use Rattle.shares.specs.Printed.{printer, textMost, textRoom, Wide}
+use Rattle.shares.specs.Printing.{printer, textMost, textRoom, Wide}
 
 -- what `allocate` promises, where lists of enough entries are lent
 pub answered : {s owners prices scratch owners′ prices′ scratch′ : List ℕ} {r : ShareOut} → maxChores ≡ length owners → maxChores ≡ length prices → scratchSize ≡ length scratch → length owners′ ≡ length owners → length prices′ ≡ length prices → Allocated s owners prices scratch owners′ prices′ scratch′ r → Answered printer s owners′ prices′ r
@@ -37,11 +36,10 @@ answered {s} {owners} {prices} {scratch} o p c o′ p′ A =
 module _ {s owners prices : List ℕ} {count cuts m : ℕ} (L : Left printer s count cuts owners prices) (e : m ≡ choresOf s) where
   pub left-wide : {out : List ℕ} → textRoom ≤ length out → Wide (take (m - 0) owners) (take (m - 0) prices) out
   left-wide room =
-      let R = L .ran in
       let cut : m - 0 ≡ choresOf s = omega arith in
       record {
-        ownersFew = rw cut (omega (arith, ap length (R .ownersAre), owners-long s (L .accepted), R .valid .choresFit));
-        pricesFew = rw cut (omega (arith, ap length (R .pricesAre), prices-long s (L .accepted), R .valid .choresFit));
+        ownersFew = rw cut (answering.owners-few printer (L .accepted) (L .ran));
+        pricesFew = rw cut (answering.prices-few printer (L .accepted) (L .ran));
         room = room;
       }
 

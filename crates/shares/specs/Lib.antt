@@ -1,2 +1,2 @@
 pub mod Page
-pub mod Printed
+pub mod Printing

@@ -14,7 +14,7 @@ ghost use Prim.Native.Nat.{_≤_};
 ghost use lib.ListN.{length};
 ghost use Rattle.pages.specs.Printer.{lastOf};
 ghost use Rattle.pages.specs.Printing.{Shows};
-ghost use Rattle.shares.specs.Printed.{textRoom, printer};
+ghost use Rattle.shares.specs.Printing.{textRoom, printer};
 
 // `whole` tells whether all before it went out.
 fn put(whole: bool, fd: i32, text: &[u8]) -> bool {

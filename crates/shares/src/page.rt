@@ -9,7 +9,7 @@ ghost use Rattle.pages.specs.Printer.{textOf};
 ghost use Rattle.pages.specs.Printing.{SheetShown};
 ghost use Rattle.pages.specs.Answered.{Answered};
 ghost use Rattle.shares.specs.Page.{sharedLines};
-ghost use Rattle.shares.specs.Printed.{textMost, textRoom, Wide, printer};
+ghost use Rattle.shares.specs.Printing.{textMost, textRoom, Wide, printer};
 
 // The three lines of an accepted sheet.
 fn shared_lines(

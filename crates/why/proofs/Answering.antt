@@ -1,6 +1,6 @@
 -- What `allocate_recorded` promises, for a sheet to whose share-out lists of enough entries and a record of recordSize bytes are lent.
 -- Assumes nothing.
-use Prim.Native.Nat.{ℕ, _*_, _≤_}
+use Prim.Native.Nat.{ℕ, _*_}
 use mathlib.Core.List.{List}
 use mathlib.Core.Path.{_≡_, sym, ap, _∙_}
 use native.Mathlib.Omega.{arith}

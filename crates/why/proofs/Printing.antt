@@ -6,7 +6,6 @@ use mathlib.Core.Path.{_≡_}
 use Rattle.model.specs.Contents.{sheetOf}
 use Rattle.model.specs.Algorithm.{State}
 use Rattle.model.specs.Record.{Move}
-use Rattle.model.specs.Refusals.{contentsRefusal}
 use Rattle.algorithm.proofs.RunMoves.{moves-of}
 use Rattle.allocation.specs.Final.{finalOf}
 use Rattle.allocation.proofs.Final.{final-demand3}

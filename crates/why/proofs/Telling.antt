@@ -2,7 +2,7 @@
 -- Assumes nothing.
 use Prim.Native.Nat.{ℕ, _-_, _*_, _≤_}
 use mathlib.Core.List.{List}
-use mathlib.Core.Path.{_≡_, refl, sym, ap, _∙_}
+use mathlib.Core.Path.{_≡_, refl, sym, _∙_}
 use native.Mathlib.Omega.{arith}
 use lib.ListN.{length, take}
 use lib.Seq.{length-take-le}
@@ -14,11 +14,10 @@ use Rattle.market.specs.Opened.{OpenInto}
 use Rattle.recorded.specs.Moves.{movesFor}
 use Rattle.allocation.specs.Final.{finalOf}
 use Rattle.allocation.proofs.Sharing.{first-sized}
-use Rattle.allocation.proofs.Final.{owners-long, prices-long}
 use Rattle.text.specs.Put.{Put}
 use Rattle.pages.specs.Printer.{textOf}
 use Rattle.pages.specs.Answered.{Left}
-use Rattle.pages.proofs.Answering.{accepted-text}
+use Rattle.pages.proofs.Answering.{owners-few, prices-few, accepted-text}
 use Rattle.why.specs.Told.{printer, textMost, textRoom, Wide, PutRun, Openable, Opening, Noted}
 
 -- lists of an entry for each chore, cut from longer ones
@@ -35,13 +34,11 @@ opening-into {m = m} prices likes O a b p l =
 module _ {s owners prices bytes opened : List ℕ} {count cuts : ℕ} (O : Opening s count cuts owners prices bytes opened) where
   pub opening-wide : {opened′ out : List ℕ} → length opened′ ≡ length opened → textRoom ≤ length out → Wide opened′ bytes owners prices out
   opening-wide same room =
-      let z = printer .unbroken s (O .accepted) in
-      let fits = O .ran .valid .choresFit in
       record {
-        openedFew = omega (arith, O .openedSized, fits);
+        openedFew = omega (arith, O .openedSized, O .ran .valid .choresFit);
         bytesFew = O .bytesFew;
-        ownersFew = omega (arith, ap length (O .ran .ownersAre), owners-long s z, fits);
-        pricesFew = omega (arith, ap length (O .ran .pricesAre), prices-long s z, fits);
+        ownersFew = owners-few printer (O .accepted) (O .ran);
+        pricesFew = prices-few printer (O .accepted) (O .ran);
         room = room;
       }
 

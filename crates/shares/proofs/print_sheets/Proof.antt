@@ -7,7 +7,7 @@ use borrow.Author.Needs.{needs}
 use Rattle.pages.specs.Printer.{toPrint}
 use Rattle.pages.specs.Printing.{Passed}
 use Rattle.pages.proofs.Printing.{in-book, begin, fitting, onward, finish}
-use Rattle.shares.specs.Printed.{printer}
+use Rattle.shares.specs.Printing.{printer}
 use Rattle.shares.proofs.print_sheets.Statement.{statement}
 use Rattle.shares.proofs.print_sheets.Tie as tie
 

@@ -3,7 +3,7 @@
 use native.Mathlib.Omega.{arith}
 use borrow.Author.Needs.{needs}
 use Rattle.pages.proofs.Printing.{sheet-shown}
-use Rattle.shares.specs.Printed.{printer}
+use Rattle.shares.specs.Printing.{printer}
 use Rattle.shares.proofs.Printing.{answered}
 use Rattle.shares.proofs.page.sheet_text.Statement.{statement}
 use Rattle.shares.proofs.page.sheet_text.Tie as tie
