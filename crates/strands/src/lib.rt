@@ -99,7 +99,7 @@ fn seam_bits(row: &[u8], m: usize) -> u32
     sheet::byte_at(row, m / 8) >> (8 - rest)
 }
 
-// Eight bits out of two bytes: they begin `shift` before the second.
+// Eight bits out of two bytes: they begin `shift` bits before the second.
 fn moved_byte(high: u32, low: u32, shift: usize) -> u8
     requires { ⌜ (high < 256) × (low < 256) × (shift < 8) ⌝ }
     ensures { λ r. ⌜ r ≡ movedByte high low shift ⌝ }
