@@ -186,5 +186,3 @@ pub list-cong : (n m : ℕ) (t u : List ℕ → Bool) → ((y : List ℕ) → Pi
 list-cong n m t u h =
     bool-eq (λ e. let r = list-elim n m t e in list-intro u (r .picks) (sym (h (r .list) (r .picks)) ∙ r .passes))
     (λ e. let r = list-elim n m u e in list-intro t (r .picks) (h (r .list) (r .picks) ∙ r .passes))
-
--- wordAt

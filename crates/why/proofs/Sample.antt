@@ -8,8 +8,10 @@ use Rattle.finite.specs.Sums.{sumTo, maxTo, minTo, sumWhere, maxWhere}
 use Rattle.finite.specs.Search.{anyBelow, allBelow, firstStep, firstBelow, chosen}
 use Rattle.finite.specs.Lists.{tabulate, wordAt}
 use Rattle.finite.specs.Reach.{reach}
+use Rattle.finite.specs.Bits.{bit}
+use Rattle.finite.specs.Packed.{bitAt, packBits, packedByte, packed}
 use Rattle.model.specs.Instance.{cost, ownerOf, priceOf}
-use Rattle.model.specs.Sheet.{agentsOf, choresOf, easyWeight, difficultWeight, markAt, isDifficult, marksEasy, sheetLength, allDifficult, asRead}
+use Rattle.model.specs.Sheet.{agentsOf, choresOf, easyWeight, difficultWeight, rowOf, isDifficult, marksEasy, sheetLength, allDifficult, asRead}
 use Rattle.model.specs.Contents.{sheetCount, sheetStart, sheetSize, sheetOf}
 use Rattle.model.specs.Fairness.{owns, holdsAny, total}
 use Rattle.model.specs.Prices.{ratioAtMost, best, dearest, priceUpToOne}
@@ -17,9 +19,9 @@ use Rattle.model.specs.Step2a.{giver2a, receiver2a, due2a, chore2a}
 use Rattle.model.specs.Step2b.{leastSum, above, supplies, ofLeastSum, within, reachable, atDistance, ring2b, due2b, giver2b, receiver2b, chore2b}
 use Rattle.model.specs.Algorithm.{State, done, opensWith, openingOwner, openingPrice, opening, group, isEntitled, action2a, action2b, action, handed, passed, inNewGroup, afterCut, result, step, next, after}
 use Rattle.model.specs.Record.{Move, roundOf, stepOf, handsOver, nextMoves, movesIn}
-use Rattle.model.specs.Refusals.{_orElse_, isMark, headerRefusal, sheetRefusal, recordRefusal}
+use Rattle.model.specs.Refusals.{_orElse_, setAfter, marksFault, headerRefusal, sheetRefusal, recordRefusal}
 use Rattle.model.specs.Promises.{Demand3, RunMoves}
-use Rattle.model.specs.Cases.{marks, allMarks, firstRow, sheet}
+use Rattle.model.specs.Cases.{marks, row, allRows, firstCount, header, sheet}
 use Rattle.model.specs.Starred.{sheetC}
 use Rattle.model.proofs.Unique.{same-moves}
 use Rattle.text.specs.Text.{ascii, digitsIn, decimal, field, spaced, joined}
@@ -29,7 +31,7 @@ use Rattle.why.specs.Page.{runLines, runRefusal, runText, adds, sheetTex
 
 -- its contents, and then the sheet
 unfoldable pub bookC : List ℕ
-bookC = 1 ∷ 0 ∷ 5 ∷ 0 ∷ 16 ∷ sheetC
+bookC = 1 ∷ 0 ∷ 5 ∷ 0 ∷ 9 ∷ sheetC
 
 -- the text for it, as it is to be printed
 unfoldable pub textC : List ℕ
@@ -57,19 +59,19 @@ movesC =
 
 -- five steps of Algorithm 1: a move, a cut, two moves, the stop
 five-steps : (after (asRead sheetC) 5 ≡ done finalC) × (movesIn (asRead sheetC) 5 ≡ movesC)
-unfolding finalC movesC sheetC sheet marks allMarks firstRow sumTo maxTo minTo sumWhere maxWhere anyBelow allBelow firstStep firstBelow chosen tabulate wordAt reach cost ownerOf priceOf agentsOf choresOf easyWeight difficultWeight markAt isDifficult marksEasy sheetLength allDifficult asRead owns holdsAny total ratioAtMost best dearest priceUpToOne opensWith openingOwner openingPrice opening group isEntitled giver2a receiver2a due2a chore2a action2a leastSum above supplies ofLeastSum within reachable atDistance ring2b due2b giver2b receiver2b chore2b action2b action handed passed inNewGroup afterCut result step next after roundOf stepOf handsOver nextMoves movesIn
+unfolding finalC movesC sheetC sheet header marks row allRows firstCount bit bitAt packBits packedByte packed sumTo maxTo minTo sumWhere maxWhere anyBelow allBelow firstStep firstBelow chosen tabulate wordAt reach cost ownerOf priceOf agentsOf choresOf easyWeight difficultWeight rowOf isDifficult marksEasy sheetLength allDifficult asRead owns holdsAny total ratioAtMost best dearest priceUpToOne opensWith openingOwner openingPrice opening group isEntitled giver2a receiver2a due2a chore2a action2a leastSum above supplies ofLeastSum within reachable atDistance ring2b due2b giver2b receiver2b chore2b action2b action handed passed inNewGroup afterCut result step next after roundOf stepOf handsOver nextMoves movesIn
 five-steps = (refl, refl)
 
 printed : bookText bookC (λ _. finalC) (λ _. movesC) ≡ textC
-unfolding bookC textC finalC movesC sheetC sheet marks allMarks firstRow sumTo anyBelow allBelow firstStep firstBelow tabulate wordAt agentsOf choresOf easyWeight difficultWeight markAt isDifficult marksEasy sheetLength allDifficult asRead opensWith openingOwner openingPrice opening sheetCount sheetStart sheetSize sheetOf _orElse_ isMark headerRefusal sheetRefusal recordRefusal digitsIn decimal field spaced sheetLine listLine openingLine ownersLine pricesLine totalLine numbersLine moveLine moveLines runLines runRefusal runText adds sheetText joined tallyTo lastLine bookText
+unfolding bookC textC finalC movesC sheetC sheet header marks row allRows firstCount bit bitAt packBits packedByte packed sumTo anyBelow allBelow firstStep firstBelow tabulate wordAt agentsOf choresOf easyWeight difficultWeight rowOf isDifficult marksEasy sheetLength allDifficult asRead opensWith openingOwner openingPrice opening sheetCount sheetStart sheetSize sheetOf _orElse_ setAfter marksFault headerRefusal sheetRefusal recordRefusal digitsIn decimal field spaced sheetLine listLine openingLine ownersLine pricesLine totalLine numbersLine moveLine moveLines runLines runRefusal runText adds sheetText joined tallyTo lastLine bookText
 printed = refl
 
 sheet-is : sheetOf bookC 0 ≡ sheetC
-unfolding bookC sheetC sheet marks allMarks firstRow wordAt sheetStart sheetSize sheetOf
+unfolding bookC sheetC sheet header marks row allRows firstCount bit bitAt packBits packedByte packed tabulate wordAt sheetStart sheetSize sheetOf
 sheet-is = refl
 
 taken : sheetRefusal sheetC ≡ 0
-unfolding sheetC sheet marks allMarks firstRow anyBelow wordAt agentsOf choresOf easyWeight difficultWeight sheetLength _orElse_ isMark headerRefusal sheetRefusal
+unfolding sheetC sheet header marks row allRows firstCount bit bitAt packBits packedByte packed tabulate anyBelow wordAt agentsOf choresOf easyWeight difficultWeight rowOf sheetLength _orElse_ setAfter marksFault headerRefusal sheetRefusal
 taken = refl
 
 module _ (finals : ℕ → State) (moves : ℕ → List Move) (R : Runs bookC finals moves) where
