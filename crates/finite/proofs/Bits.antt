@@ -1,7 +1,7 @@
 -- Laws of bits of a word, and of sets of numbers as words.
 -- Assumes nothing.
 use Prim.Native.Nat.{ℕ, zero, suc, _+_, _-_, _*_, _/_, _%_, _^_, _≤_, _<_, min, max}
-use mathlib.Core.Bool.{Bool, true, false, not, _&&_, _||_, true≢false, false≢true}
+use mathlib.Core.Bool.{Bool, true, false, cond, not, _&&_, _||_, true≢false, false≢true}
 use mathlib.Core.Path.{_≡_, refl, sym, ap, ap₂, _∙_}
 use native.Mathlib.Nat.{le-refl, lt-of-lt-of-le, div-eq-of-lt, div-self, zero-div, div-one, div-div-eq-div-mul, mul-comm, mod-lt, mod-eq-of-lt, mul-add-mod-self-right, mul-mod-left, one-mul, pow-suc, mul-div-cancel}
 use native.Mathlib.Numerals.{add-one}
@@ -172,6 +172,11 @@ set-take {k} {w} {t} s e =
           (λ q. rw q (or-right (bit w k) (eq-eqb k k refl) ∙ sym e))
           (λ m. let n : i ≡ k → ⊥ = omega arith in ap (λ b. bit w i || b) (ne-eqb i k n) ∙ or-false (bit w i) ∙ s .member i m);
     }
+
+-- or either, by a test that says which
+pub set-unless : {k w : ℕ} {t : ℕ → Bool} (d : Bool) → SetOf k w t → t k ≡ not d → SetOf (k + 1) (cond d w (bitOr w (2 ^ k))) t
+set-unless true s e = set-skip s e
+set-unless false s e = set-take s e
 
 -- a set has one word
 pub set-unique : {n v w : ℕ} {t : ℕ → Bool} → SetOf n v t → SetOf n w t → v ≡ w

@@ -5,9 +5,9 @@ ghost use Rattle.finite.specs.Bits.{SetOf};
 ghost use Rattle.model.specs.Limits.{maxAgents};
 ghost use Rattle.model.specs.Sheet.{asRead, allDifficult};
 ghost use Rattle.market.specs.Opened.{OpenOn, OpenIn, OpensWith, OpenInto, Opened};
-use crate::words::has;
 use crate::words::lowest;
 use crate::words::with;
+use crate::words::with_easy;
 
 // The agents whose row is all difficult, which is read as all easy.
 pub fn all_difficult_rows(sheet: &[u8], n: usize, m: usize) -> u32
@@ -25,7 +25,7 @@ pub fn all_difficult_rows(sheet: &[u8], n: usize, m: usize) -> u32
     w
 }
 
-// The agents who find chore c easy.
+// The agents who find chore c easy: those who mark it so, and those whose row is all difficult.
 fn easy_for(sheet: &[u8], n: usize, m: usize, all: u32, c: usize) -> u32
     requires { ⌜ OpenIn (now sheet) n m all c ⌝ }
     ensures { λ r. ⌜ SetOf n r (λ i. asRead (now (sheet .entry)) .easy i c) ⌝ }
@@ -33,12 +33,10 @@ fn easy_for(sheet: &[u8], n: usize, m: usize, all: u32, c: usize) -> u32
     let mut w = 0u32;
     let mut i = 0;
     while i < n {
-        if sheet::marks_easy(sheet, m, i, c) || has(all, i) {
-            w = with(w, i);
-        }
+        w = with_easy(w, i, sheet::mark_at(sheet, m, i, c));
         i += 1;
     }
-    w
+    w | all
 }
 
 // Everybody.

@@ -1,7 +1,9 @@
 // Sets of agents as the bits of a word, which has 32.
 ghost use mathlib.Core.Path.{_≡_};
 ghost use Prim.Native.Nat.{_≤_, _<_, _^_};
+ghost use mathlib.Core.Bool.{cond};
 ghost use lib.Bits.{bitOr};
+ghost use lib.Dec.{eqb};
 ghost use Rattle.finite.specs.Bits.{bit};
 ghost use Rattle.finite.specs.Search.{firstBelow};
 ghost use Rattle.model.specs.Limits.{maxAgents};
@@ -19,6 +21,15 @@ pub fn with(w: u32, i: usize) -> u32
     ensures { λ r. ⌜ r ≡ bitOr w (2 ^ i) ⌝ }
 {
     w | (1u32 << i)
+}
+
+// The set with agent i, unless its mark is 1, difficult. Marks are as good as random, so that a test of each would often be guessed wrong.
+pub fn with_easy(w: u32, i: usize, mark: u8) -> u32
+    requires { ⌜ i < 32 ⌝ }
+    requires { ⌜ mark < 2 ⌝ }
+    ensures { λ r. ⌜ r ≡ cond (eqb mark 1) w (bitOr w (2 ^ i)) ⌝ }
+{
+    w | ((1 - mark as u32) << i)
 }
 
 // The lowest agent of the set, n where it is empty.
