@@ -1,14 +1,18 @@
 -- Laws of the greatest and the least value over the numbers below a bound.
 -- Assumes nothing.
-use Prim.Native.Nat.{ℕ, zero, suc, _+_, _*_, _≤_, _<_, min, max}
+use Prim.Native.Nat.{ℕ, zero, suc, _+_, _*_, _≤_, _<_, min, max, zero-le}
 use mathlib.Core.Bool.{Bool, true, false, cond}
 use mathlib.Core.Path.{_≡_, refl, sym, ap, ap₂, _∙_}
-use native.Mathlib.Nat.{le-refl, le-antisymm, mul-zero, mul-le-mul-left, max-eq-left, max-eq-right, min-eq-left, min-eq-right, le-of-lt}
+use native.Mathlib.Nat.{le-refl, le-trans, le-antisymm, add-zero, add-suc, mul-zero, mul-le-mul-left, max-eq-left, max-eq-right, min-eq-left, min-eq-right, le-of-lt}
 use native.Mathlib.Numerals.{add-one}
 use native.Mathlib.Omega.{arith}
+use lib.Dec.{leb}
+use borrow.Author.Tests.{leb-true, le-leb}
 use Rattle.finite.specs.Sums.{maxTo, maxWhere, minTo}
-use Rattle.finite.proofs.Tests.{by-test, cond-cong, cond-le, cond-scale}
+use Rattle.finite.specs.Search.{allBelow}
+use Rattle.finite.proofs.Tests.{by-test, bool-eq, cond-cong, cond-le, cond-scale}
 use Rattle.finite.proofs.Below.{none-below, by-top, lower, by-less}
+use Rattle.finite.proofs.Search.{all-elim, all-intro}
 
 -- l is the greatest of f 0 .. f (n - 1)
 pub record Top (n : ℕ) (f : ℕ → ℕ) (l : ℕ) : Type 0 where
@@ -33,6 +37,10 @@ pub record Low (n : ℕ) (f : ℕ → ℕ) (l : ℕ) : Type 0 where
   pub under : (i : ℕ) → i < n → l ≤ f i
 
 -- maxTo
+
+pub top-zero : (f : ℕ → ℕ) → maxTo 0 f ≡ 0
+unfolding maxTo
+top-zero f = refl
 
 pub top-next : (k : ℕ) (f : ℕ → ℕ) → maxTo (k + 1) f ≡ max (maxTo k f) (f k)
 unfolding maxTo
@@ -62,6 +70,18 @@ pub top-cong : (n : ℕ) {f g : ℕ → ℕ} → ((i : ℕ) → i < n → f i �
 unfolding maxTo
 top-cong zero h = refl
 top-cong (suc k) h = ap₂ max (top-cong k (lower h)) (h k (le-refl _))
+
+-- over two stretches
+pub top-add : (k l : ℕ) (f : ℕ → ℕ) → maxTo (k + l) f ≡ max (maxTo k f) (maxTo l (λ i. f (k + i)))
+unfolding maxTo
+top-add k zero f = ap (λ n. maxTo n f) (add-zero k) ∙ sym (max-eq-left zero-le)
+top-add k (suc l) f = ap (λ n. maxTo n f) (add-suc k l) ∙ rw (top-add k l f) (omega arith)
+
+-- nothing is above b where the greatest is not
+pub top-leb : (n : ℕ) (f : ℕ → ℕ) (b : ℕ) → allBelow n (λ i. leb (f i) b) ≡ leb (maxTo n f) b
+top-leb n f b =
+    bool-eq (λ e. le-leb (maxTo n f) b (top-at-most n (λ i l. leb-true (f i) b (all-elim n (λ i. leb (f i) b) e i l))))
+    (λ e. all-intro n (λ i. leb (f i) b) (λ i l. le-leb (f i) b (le-trans (top-above f i l) (leb-true (maxTo n f) b e))))
 
 pub mul-max : (k a b : ℕ) → k * max a b ≡ max (k * a) (k * b)
 mul-max k a b =
@@ -164,5 +184,3 @@ unfolding minTo
 low-cong zero h = refl
 low-cong (suc zero) h = h 0 (le-refl _)
 low-cong (suc (suc k)) h = ap₂ min (low-cong (suc k) (lower h)) (h (suc k) (le-refl _))
-
--- a running least: the first value, one that is not less, one that is not greater

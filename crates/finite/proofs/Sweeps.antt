@@ -17,7 +17,7 @@ use Rattle.finite.proofs.Where.{where-zero, where-hit, where-miss, wher
 use Rattle.finite.proofs.Extremes.{peak-zero, peak-miss, peak-keep, peak-raise}
 
 -- zeros, where a sweep begins
-table-zeros : {n : ℕ} {f : ℕ → ℕ} {xs : List ℕ} → ((i : ℕ) → f i ≡ 0) → xs ≡ replicate n 0 → Table n f xs
+pub table-zeros : {n : ℕ} {f : ℕ → ℕ} {xs : List ℕ} → ((i : ℕ) → f i ≡ 0) → xs ≡ replicate n 0 → Table n f xs
 table-zeros {n} z e =
     record {
       size = ap length e ∙ length-replicate n 0;

@@ -1,5 +1,5 @@
 pub mod Refusals
-pub mod Ratio
+pub mod Worths
 pub mod Envy
 pub mod Off
 pub mod Checked

@@ -1,20 +1,24 @@
 -- The first chore that is not best for its owner.
 -- Assumes nothing.
-use Prim.Native.Nat.{ℕ, _<_}
-use mathlib.Core.Bool.{Bool, not}
+use Prim.Native.Nat.{ℕ, _*_, _<_}
+use mathlib.Core.Bool.{Bool, cond, not}
 use mathlib.Core.List.{List}
-use mathlib.Core.Path.{_≡_, sym, ap, _∙_}
-use native.Mathlib.Omega.{arith}
+use mathlib.Core.Path.{_≡_}
+use lib.Dec.{leb, eqb}
 use lib.ListN.{getD}
 use Rattle.finite.specs.Search.{firstBelow}
+use Rattle.finite.proofs.Tests.{cond-not}
+use Rattle.finite.proofs.Packed.{digit-is}
 use Rattle.model.specs.Instance.{ownerOf, priceOf}
-use Rattle.model.specs.Sheet.{easyWeight, difficultWeight, asMarked}
-use Rattle.model.specs.Prices.{ratioAtMost, best}
+use Rattle.model.specs.Sheet.{easyWeight, difficultWeight, isDifficult, marksEasy, asMarked}
+use Rattle.model.specs.Prices.{best}
 use Rattle.model.specs.Verdicts.{firstOffPrice}
-use Rattle.pricecheck.specs.Parts.{PricesGiven, Compared, LeastRatios}
+use Rattle.welfare.proofs.Costs.{marked-weighted}
+use Rattle.sheet.specs.Readers.{InSheet}
 use Rattle.given.proofs.Given.{owner-below}
-use Rattle.pricecheck.proofs.Refusals.{given-rated}
-use Rattle.pricecheck.proofs.Ratio.{best-is}
+use Rattle.pricecheck.specs.Parts.{PricesGiven}
+use Rattle.pricecheck.specs.Worths.{worth, Weighable, Rated, Greatest}
+use Rattle.pricecheck.proofs.Worths.{best-is, weighable, rated-easier, rated-fits}
 
 -- chore c is not best for its owner
 unfoldable pub isOff : List ℕ → List ℕ → List ℕ → ℕ → Bool
@@ -25,26 +29,26 @@ module _ {s owners prices : List ℕ} {n m : ℕ} (g : PricesGiven s owners pric
   unfolding firstOffPrice isOff asMarked
   first-off-is = rw (g .given .chores)
 
-  -- chore c, its owner i, and i's best chore
-  module _ {least : List ℕ} (all : LeastRatios s prices n m least) (c i : ℕ) (below : c < m) (own : i ≡ ownerOf owners c) where
-    pub owner-among : i < n
-    owner-among = rw own (owner-below (g .given) c below)
+  pub owner-among : (c : ℕ) {i : ℕ} → c < m → i ≡ ownerOf owners c → i < n
+  owner-among c below own = rw own (owner-below (g .given) c below)
 
-    pub least-chore : getD least i 0 < m
-    least-chore = all .each i owner-among .below (omega arith)
+  pub owner-marks : (c : ℕ) {i : ℕ} → c < m → i ≡ ownerOf owners c → InSheet s m i c
+  owner-marks c below own =
+      record {
+        valid = g .given .valid;
+        chores = g .given .chores;
+        agent = rw (← g .given .agents) (owner-among c below own);
+        chore = rw (← g .given .chores) below;
+      }
 
-    pub off-compared : {a b : ℕ} → a ≡ easyWeight s → b ≡ difficultWeight s → Compared s prices m a b i c (getD least i 0)
-    off-compared e d =
-        record {
-          weighed = given-rated g e d .weighed;
-          size = g .priced .size;
-          agent = rw (g .given .agents) at owner-among;
-          left = below;
-          right = least-chore;
-        }
+  -- chore c, its owner i, and i's mark for it
+  module _ {a b : ℕ} (rated : Rated s prices m a b) (c : ℕ) {i mark : ℕ} (below : c < m) (own : i ≡ ownerOf owners c) (read : mark ≡ cond (isDifficult s i c) 1 0) where
+    pub off-weighable : Weighable (getD prices c 0) a b mark
+    off-weighable = weighable (g .priced .bounded c below) (rated-easier rated) (rated-fits rated) (isDifficult s i c) read
 
-    pub off-is : isOff s owners prices c ≡ not (ratioAtMost (asMarked s) (priceOf prices) i c (getD least i 0))
-    unfolding isOff asMarked priceOf
-    off-is =
-        ap (λ k. not (best (asMarked s) (priceOf prices) k c)) (sym own)
-        ∙ ap not (best-is (asMarked s) (priceOf prices) i c (getD least i 0) (rw (g .given .chores) at least-chore) (g .priced .positive (getD least i 0) least-chore) (all .each i owner-among .best))
+    -- what it is worth to i, and the greatest worths
+    module _ {value : ℕ} {greatest : List ℕ} (is : value ≡ getD prices c 0 * cond (eqb mark 1) a b) (all : Greatest s prices n m greatest) where
+      pub off-is : isOff s owners prices c ≡ not (leb (getD greatest i 0) value)
+      unfolding isOff worth asMarked marksEasy priceOf
+      off-is =
+          rw (← own, best-is (asMarked s) (marked-weighted (g .given .valid)) (priceOf prices) i c, all .each i (owner-among c below own), is, read, digit-is (isDifficult s i c), rated .weighed .easy, rated .weighed .difficult, g .given .chores, cond-not (isDifficult s i c) (difficultWeight s) (easyWeight s))

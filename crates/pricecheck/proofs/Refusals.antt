@@ -16,7 +16,8 @@ use Rattle.sheet.proofs.OrElse.{or-else-zero, or-else-assoc}
 use Rattle.sheet.proofs.Judged.{prices-picks}
 use Rattle.given.specs.Given.{givenRefusal}
 use Rattle.totals.specs.Totals.{Held}
-use Rattle.pricecheck.specs.Parts.{PricesGiven, Rated}
+use Rattle.pricecheck.specs.Parts.{PricesGiven}
+use Rattle.pricecheck.specs.Worths.{Rated}
 use Rattle.given.proofs.Given.{given, given-few, given-weighed}
 
 module _ (m : ℕ) (prices : List ℕ) where

@@ -2,18 +2,21 @@
 
 use model::PriceVerdict;
 ghost use mathlib.Core.Path.{_≡_};
-ghost use Prim.Native.Nat.{_*_, _≤_, _<_};
+ghost use Prim.Native.Nat.{_+_, _*_, _≤_, max};
+ghost use mathlib.Core.Bool.{cond};
+ghost use lib.Dec.{eqb};
 ghost use lib.ListN.{length};
+ghost use Rattle.finite.specs.Sums.{maxTo};
 ghost use Rattle.model.specs.Limits.{maxAgents};
 ghost use Rattle.model.specs.Instance.{ownerOf, priceOf};
 ghost use Rattle.model.specs.Sheet.{agentsOf, asMarked};
-ghost use Rattle.model.specs.Prices.{ratioAtMost};
 ghost use Rattle.model.specs.Refusals.{pricesRefusal, priceRefusal};
 ghost use Rattle.model.specs.Verdicts.{firstOfPair, firstOffPrice};
 ghost use Rattle.model.specs.Replies.{priceReply};
 ghost use Rattle.model.specs.Promises.{PricesChecked};
 ghost use Rattle.totals.specs.Totals.{Held};
-ghost use Rattle.pricecheck.specs.Parts.{Rated, Compared, PricesGiven, LeastSoFar, FirstLower, LeastRatio, LeastRatios, above, outpays, envyVerdict};
+ghost use Rattle.pricecheck.specs.Parts.{PricesGiven, above, outpays, envyVerdict};
+ghost use Rattle.pricecheck.specs.Worths.{Rated, Weighable, UpToEight, worthIn, Column, Greatest};
 
 // The number that a list of prices is turned down with, 0 where it is not.
 fn prices_refusal(prices: &[u32], m: usize) -> u8
@@ -45,115 +48,108 @@ fn price_refusal(sheet: &[u8], owners: &[u8], prices: &[u32]) -> u8
     prices_refusal(prices, m)
 }
 
-// Two numbers of 32 bits never have a product that 64 bits do not hold.
-fn product(cost: u32, price: u32) -> u64
-    ensures { λ r. ⌜ r ≡ cost * price ⌝ }
+// What a chore is worth to an agent: its price times the weight that it does not cost. A cost times the other weight is a times b, whichever
+// the mark, so the ratio of cost to price is the lower the more a chore is worth.
+fn worth(price: u32, a: u32, b: u32, mark: u8) -> u32
+    requires { ⌜ Weighable price a b mark ⌝ }
+    ensures { λ r. ⌜ r ≡ price * cond (eqb mark 1) a b ⌝ }
 {
-    (cost as u64) * (price as u64)
+    let cost = given::mark_cost(a, b, mark);
+    price * (a + b - cost)
 }
 
-// Whether agent i's ratio of cost to price for chore c is at most that for chore d, by cross products.
-fn ratio_at_most(
-    sheet: &[u8],
+// The greatest worth of up to eight chores, `count` from `first` on, to an agent whose marks for them are in `byte`; or `known`, if that is
+// greater.
+fn greatest_in_byte(
+    byte: u8,
     prices: &[u32],
-    m: usize,
+    first: usize,
+    count: usize,
     a: u32,
     b: u32,
-    i: usize,
-    c: usize,
-    d: usize,
-) -> bool
-    requires { ⌜ Compared (now sheet) (now prices) m a b i c d ⌝ }
-    ensures { λ r. ⌜ r ≡ ratioAtMost (asMarked (now (sheet .entry))) (priceOf (now (prices .entry))) i c d ⌝ }
+    known: u32,
+) -> u32
+    requires { ⌜ UpToEight (now prices) a b first count ⌝ }
+    ensures { λ r. ⌜ r ≡ max known (maxTo count (worthIn a b (now (prices .entry)) first byte)) ⌝ }
 {
-    let left = product(given::cost(sheet, m, a, b, i, c), prices[d]);
-    let right = product(given::cost(sheet, m, a, b, i, d), prices[c]);
-    left <= right
-}
-
-// The first chore from k on for which agent i's ratio is below that for chore d, m where there is none. In this search the ratio for d stays
-// the same, so that it is worked out once.
-fn first_lower(
-    sheet: &[u8],
-    prices: &[u32],
-    m: usize,
-    a: u32,
-    b: u32,
-    i: usize,
-    d: usize,
-    k: usize,
-) -> usize
-    requires { ⌜ Rated (now sheet) (now prices) m a b ⌝ }
-    requires { ⌜ i < agentsOf (now sheet) ⌝ }
-    requires { ⌜ LeastSoFar (now sheet) (now prices) m i d k ⌝ }
-    ensures { λ r. ⌜ FirstLower (now (sheet .entry)) (now (prices .entry)) m i d k r ⌝ }
-{
-    let mut c = k;
-    while c < m {
-        if !ratio_at_most(sheet, prices, m, a, b, i, d, c) {
-            return c;
+    let mut greatest = known;
+    let mut j = 0;
+    while j < count {
+        let value = worth(prices[first + j], a, b, sheet::mark_in(byte, j));
+        if greatest < value {
+            greatest = value;
         }
-        c += 1;
+        j += 1;
     }
-    m
+    greatest
 }
 
-// A chore of agent i's least ratio over all chores; 0 where there is no chore.
-fn least_ratio(sheet: &[u8], prices: &[u32], m: usize, a: u32, b: u32, i: usize) -> usize
-    requires { ⌜ Rated (now sheet) (now prices) m a b ⌝ }
-    requires { ⌜ i < agentsOf (now sheet) ⌝ }
-    ensures { λ r. ⌜ LeastRatio (now (sheet .entry)) (now (prices .entry)) m i r ⌝ }
-{
-    let mut least = 0;
-    let mut c = 0;
-    while c < m {
-        least = c;
-        c = first_lower(sheet, prices, m, a, b, i, least, c + 1);
-    }
-    least
-}
-
-// A chore for each agent, none found yet.
-fn no_chores() -> [usize; model::MAX_AGENTS]
-    ensures { λ r. ⌜ length r ≡ maxAgents ⌝ }
-{
-    [0; model::MAX_AGENTS]
-}
-
-// For each agent a chore of its least ratio.
-fn least_ratios(
+// The greatest worths so far, with `count` chores more: those whose marks are in byte k of a row. To nobody are they worth more than if all were
+// marked easy, so most agents' marks need not be read.
+fn raise(
     sheet: &[u8],
     prices: &[u32],
     n: usize,
     m: usize,
     a: u32,
     b: u32,
-) -> [usize; model::MAX_AGENTS]
-    requires { ⌜ Rated (now sheet) (now prices) m a b ⌝ }
-    requires { ⌜ n ≡ agentsOf (now sheet) ⌝ }
-    ensures { λ r. ⌜ LeastRatios (now (sheet .entry)) (now (prices .entry)) n m r ⌝ }
+    k: usize,
+    count: usize,
+    greatest: &mut [u32; model::MAX_AGENTS],
+)
+    requires { ⌜ Column (now sheet) (now prices) n m a b k count ⌝ }
+    requires { ⌜ Greatest (now sheet) (now prices) n (8 * k) (now greatest) ⌝ }
+    ensures { λ _. ⌜ Greatest (now (sheet .entry)) (now (prices .entry)) n (8 * k + count) (now (greatest .exit)) ⌝ }
 {
-    let mut least = no_chores();
+    let first = 8 * k;
+    let most = greatest_in_byte(0, prices, first, count, a, b, 0);
     let mut i = 0;
     while i < n {
-        least[i] = least_ratio(sheet, prices, m, a, b, i);
+        let known = greatest[i];
+        if known < most {
+            let byte = sheet::row_byte(sheet, m, i, k);
+            greatest[i] = greatest_in_byte(byte, prices, first, count, a, b, known);
+        }
         i += 1;
     }
-    least
 }
 
-// The first chore that is not best for its owner, m where each is. A chore is best if its ratio is at most that of any best chore.
+// For each agent the greatest worth of any chore. Eight is written out, so that the compiler unrolls the loop over a whole byte's marks.
+fn greatest_worths(
+    sheet: &[u8],
+    prices: &[u32],
+    n: usize,
+    m: usize,
+    a: u32,
+    b: u32,
+) -> [u32; model::MAX_AGENTS]
+    requires { ⌜ Rated (now sheet) (now prices) m a b ⌝ }
+    requires { ⌜ n ≡ agentsOf (now sheet) ⌝ }
+    ensures { λ r. ⌜ Greatest (now (sheet .entry)) (now (prices .entry)) n m r ⌝ }
+{
+    let mut greatest = totals::zeros();
+    let mut k = 0;
+    while k < m / 8 {
+        raise(sheet, prices, n, m, a, b, k, 8, &mut greatest);
+        k += 1;
+    }
+    raise(sheet, prices, n, m, a, b, k, m % 8, &mut greatest);
+    greatest
+}
+
+// The first chore that is not best for its owner, m where each is. A chore is best if no other is worth more to its owner.
 fn first_off_price(sheet: &[u8], owners: &[u8], prices: &[u32], n: usize, m: usize) -> usize
     requires { ⌜ PricesGiven (now sheet) (now owners) (now prices) n m ⌝ }
     ensures { λ r. ⌜ r ≡ firstOffPrice (asMarked (now (sheet .entry))) (ownerOf (now (owners .entry))) (priceOf (now (prices .entry))) ⌝ }
 {
     let a = sheet::easy_weight(sheet);
     let b = sheet::difficult_weight(sheet);
-    let least = least_ratios(sheet, prices, n, m, a, b);
+    let greatest = greatest_worths(sheet, prices, n, m, a, b);
     let mut c = 0;
     while c < m {
         let i = given::owner(owners, c);
-        if !ratio_at_most(sheet, prices, m, a, b, i, c, least[i]) {
+        let value = worth(prices[c], a, b, sheet::mark_at(sheet, m, i, c));
+        if value < greatest[i] {
             return c;
         }
         c += 1;

@@ -4,7 +4,6 @@ use Prim.Native.Nat.{ℕ, _≤_, _<_}
 use mathlib.Core.Bool.{true, false}
 use mathlib.Core.List.{List}
 use mathlib.Core.Path.{_≡_}
-use native.Mathlib.Nat.{le-of-lt}
 use native.Mathlib.Omega.{arith}
 use lib.Dec.{eqb}
 use borrow.Author.Tests.{eqb-true}
@@ -15,7 +14,7 @@ use Rattle.model.specs.Fairness.{ef1, isAllocation, dominates, dominated}
 use Rattle.model.specs.Refusals.{sheetRefusal, ownersRefusal, pricesRefusal, _orElse_, priceRefusal, listRefusal}
 use Rattle.model.specs.Replies.{Reply, refused, holds, accepted}
 use Rattle.model.specs.Verdicts.{unlessRefused, priceVerdict, listCheck, priceCheck}
-use Rattle.welfare.proofs.Costs.{Weighted}
+use Rattle.welfare.proofs.Costs.{marked-weighted}
 use Rattle.welfare.proofs.Accepted.{Bought, bought-efficient, bought-even}
 use Rattle.welfare.proofs.PriceVerdict.{Priced, accepted-elim, accepted-intro}
 use Rattle.welfare.proofs.ListVerdict.{verdict-holds}
@@ -59,12 +58,6 @@ accepted-check {s} {owners} {prices} a =
     rw (or-else-none (a .sheet-ok) (or-else-none (a .owners-fit) (a .prices-fit))) (accepted-intro (asMarked s) (ownerOf owners) (priceOf prices) (a .priced))
 
 module _ (s owners prices : List ℕ) (a : AcceptedList s owners prices) where
-  weighted : Weighted (asMarked s)
-  unfolding asMarked
-  weighted =
-      let v = valid s (a .sheet-ok) in
-      record { easy-positive = v .easyPositive; easy-least = le-of-lt (v .easier) }
-
   bought : Bought (asMarked s) (ownerOf owners) (priceOf prices)
   unfolding asMarked priceOf
   bought =
@@ -79,7 +72,7 @@ module _ (s owners prices : List ℕ) (a : AcceptedList s owners prices) where
 
   -- no allocation at all dominates, be it given as a list or as a function
   pub accepted-undominated : (y : ℕ → ℕ) → ((c : ℕ) → c < asMarked s .m → y c < asMarked s .n) → dominates (asMarked s) y (ownerOf owners) ≡ false
-  accepted-undominated = bought-efficient (asMarked s) (ownerOf owners) (priceOf prices) bought weighted
+  accepted-undominated = bought-efficient (asMarked s) (ownerOf owners) (priceOf prices) bought (marked-weighted (valid s (a .sheet-ok)))
 
   pub accepted-not-wasteful : dominated (asMarked s) (ownerOf owners) ≡ false
   accepted-not-wasteful = undominated (asMarked s) (ownerOf owners) accepted-undominated

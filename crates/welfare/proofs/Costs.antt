@@ -2,20 +2,27 @@
 -- Assumes nothing.
 use Prim.Native.Nat.{ℕ, _≤_, _<_}
 use mathlib.Core.Bool.{true, false, not, _&&_}
+use mathlib.Core.List.{List}
 use mathlib.Core.Path.{_≡_}
-use native.Mathlib.Nat.{le-refl}
+use native.Mathlib.Nat.{le-refl, le-of-lt}
 use native.Mathlib.Omega.{arith}
 use borrow.Author.Tests.{not-true, eqb-true, eq-eqb, ne-eqb}
 use Rattle.finite.proofs.Tests.{cond-le, le-cond, and-elim, and-intro, not-on}
 use Rattle.finite.proofs.Search.{any-elim, any-intro}
 use Rattle.model.specs.Instance.{Instance, cost}
+use Rattle.model.specs.Sheet.{asMarked}
 use Rattle.model.specs.Fairness.{owns}
+use Rattle.sheet.specs.Valid.{Valid}
 use Rattle.welfare.specs.Waste.{burdened, passesOn}
 
 -- the weights are positive and in order
 pub record Weighted (I : Instance) : Type 0 where
   pub easy-positive : 0 < I .a
   pub easy-least : I .a ≤ I .b
+
+pub marked-weighted : {s : List ℕ} → Valid s → Weighted (asMarked s)
+unfolding asMarked
+marked-weighted v = record { easy-positive = v .easyPositive; easy-least = le-of-lt (v .easier) }
 
 pub owned : (x : ℕ → ℕ) (i c : ℕ) → owns x i c ≡ true → x c ≡ i
 unfolding owns
