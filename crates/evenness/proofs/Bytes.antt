@@ -9,13 +9,12 @@ use lib.Dec.{eqb}
 use lib.ListN.{getD}
 use Rattle.finite.specs.Bits.{bit}
 use Rattle.finite.specs.Packed.{bytesFor}
-use Rattle.finite.proofs.Packed.{digit-below}
 use Rattle.model.specs.Instance.{cost}
 use Rattle.model.specs.Sheet.{rowOf, isDifficult, asMarked}
 use Rattle.sheet.specs.Readers.{RowInSheet}
 use Rattle.sheet.proofs.Marks.{mark-in-row}
 use Rattle.given.specs.Given.{Marked, Costed, Cost}
-use Rattle.given.proofs.Costs.{cost-read}
+use Rattle.given.proofs.Costs.{weighed-easier, read-marked, cost-read}
 use Rattle.evenness.specs.Adding.{Adding}
 
 module _ {s owners : List ℕ} {m a b i first count : ℕ} (A : Adding s owners m a b i first count) where
@@ -34,9 +33,7 @@ module _ {s owners : List ℕ} {m a b i first count : ℕ} (A : Adding s owners 
         ap (λ t. cond t 1 0) (ap (isDifficult s i) here ∙ mark-in-row s i (first / 8) j (omega (arith, A .oneByte)) ∙ ap (λ x. bit x (7 - j)) (sym e)) ∙ sym read
 
     pub byte-marked : Marked a b mark
-    byte-marked =
-        let w = A .weighed in
-        record { easier = omega (arith, w .easy, w .difficult, w .valid .easier); either = rw read (digit-below (bit byte (7 - j))) }
+    byte-marked = read-marked (weighed-easier (A .weighed)) (bit byte (7 - j)) read
 
     pub byte-cost : {r : ℕ} → r ≡ cond (eqb mark 1) b a → Cost (cost (asMarked s) i (first + j)) r
     byte-cost e =

@@ -1,9 +1,9 @@
 -- Laws of a mark and of what it costs: a mark is 0 or 1, and a chore costs what its mark does.
 -- Assumes nothing.
-use Prim.Native.Nat.{ℕ, _<_}
-use mathlib.Core.Bool.{cond}
+use Prim.Native.Nat.{ℕ, _≤_, _<_}
+use mathlib.Core.Bool.{Bool, cond}
 use mathlib.Core.List.{List}
-use mathlib.Core.Path.{_≡_, sym}
+use mathlib.Core.Path.{_≡_, refl, sym}
 use native.Mathlib.Nat.{le-of-lt}
 use native.Mathlib.Omega.{arith}
 use lib.Dec.{eqb}
@@ -14,7 +14,7 @@ use Rattle.model.specs.Instance.{cost}
 use Rattle.model.specs.Sheet.{easyWeight, difficultWeight, isDifficult, marksEasy, asMarked}
 use Rattle.sheet.specs.Readers.{InSheet}
 use Rattle.welfare.proofs.Costs.{cost-at-most, cost-at-least}
-use Rattle.given.specs.Given.{Marked, Costed, Cost}
+use Rattle.given.specs.Given.{Weighed, Marked, Costed, Cost}
 
 module _ {x : ℕ} (either : x < 2) where
   pub by-mark {ℓ} : {A : Type ℓ} → (x ≡ 0 → A) → (x ≡ 1 → A) → A
@@ -24,6 +24,13 @@ module _ {x : ℕ} (either : x < 2) where
   pub either-cost : {a b r : ℕ} → (x ≡ 0 → r ≡ a) → (x ≡ 1 → r ≡ b) → r ≡ cond (eqb x 1) b a
   either-cost easy difficult = by-mark (λ e. rw e (easy e)) (λ e. rw e (difficult e))
 
+pub weighed-easier : {s : List ℕ} {m a b : ℕ} → Weighed s m a b → a ≤ b
+weighed-easier w = omega (arith, w .easy, w .difficult, w .valid .easier)
+
+-- a mark that was read
+pub read-marked : {a b mark : ℕ} → a ≤ b → (t : Bool) → mark ≡ cond t 1 0 → Marked a b mark
+read-marked easier t read = record { easier = easier; either = rw read (digit-below t) }
+
 -- a cost that was read
 module _ {s : List ℕ} {m a b i c : ℕ} (k : Costed s m a b i c) where
   pub costed-in-sheet : InSheet s m i c
@@ -31,9 +38,7 @@ module _ {s : List ℕ} {m a b i c : ℕ} (k : Costed s m a b i c) where
       record { valid = k .weighed .valid; chores = k .weighed .chores; agent = k .agent; chore = rw (← k .weighed .chores) (k .chore) }
 
   pub costed-marked : Marked a b (cond (isDifficult s i c) 1 0)
-  costed-marked =
-      let w = k .weighed in
-      record { easier = omega (arith, w .easy, w .difficult, w .valid .easier); either = digit-below (isDifficult s i c) }
+  costed-marked = read-marked (weighed-easier (k .weighed)) (isDifficult s i c) refl
 
   pub cost-read : {r : ℕ} → r ≡ cond (eqb (cond (isDifficult s i c) 1 0) 1) b a → Cost (cost (asMarked s) i c) r
   unfolding cost asMarked marksEasy

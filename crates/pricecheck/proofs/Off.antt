@@ -16,9 +16,10 @@ use Rattle.model.specs.Verdicts.{firstOffPrice}
 use Rattle.welfare.proofs.Costs.{marked-weighted}
 use Rattle.sheet.specs.Readers.{InSheet}
 use Rattle.given.proofs.Given.{owner-below}
+use Rattle.given.proofs.Costs.{weighed-easier, read-marked}
 use Rattle.pricecheck.specs.Parts.{PricesGiven}
 use Rattle.pricecheck.specs.Worths.{worth, Weighable, Rated, Greatest}
-use Rattle.pricecheck.proofs.Worths.{best-is, weighable, rated-easier, rated-fits}
+use Rattle.pricecheck.proofs.Worths.{best-is, rated-fits}
 
 -- chore c is not best for its owner
 unfoldable pub isOff : List ℕ → List ℕ → List ℕ → ℕ → Bool
@@ -44,7 +45,12 @@ module _ {s owners prices : List ℕ} {n m : ℕ} (g : PricesGiven s owners pric
   -- chore c, its owner i, and i's mark for it
   module _ {a b : ℕ} (rated : Rated s prices m a b) (c : ℕ) {i mark : ℕ} (below : c < m) (own : i ≡ ownerOf owners c) (read : mark ≡ cond (isDifficult s i c) 1 0) where
     pub off-weighable : Weighable (getD prices c 0) a b mark
-    off-weighable = weighable (g .priced .bounded c below) (rated-easier rated) (rated-fits rated) (isDifficult s i c) read
+    off-weighable =
+        record {
+          priced = g .priced .bounded c below;
+          marked = read-marked (weighed-easier (rated .weighed)) (isDifficult s i c) read;
+          fits = rated-fits rated;
+        }
 
     -- what it is worth to i, and the greatest worths
     module _ {value : ℕ} {greatest : List ℕ} (is : value ≡ getD prices c 0 * cond (eqb mark 1) a b) (all : Greatest s prices n m greatest) where

@@ -17,14 +17,15 @@ use Rattle.finite.proofs.Search.{all-cong}
 use Rattle.finite.proofs.Extremes.{top-zero, top-next, top-add, top-leb, top-above, top-at-most, top-cong}
 use Rattle.finite.proofs.Sweeps.{table-zeros}
 use Rattle.finite.proofs.Bits.{bit-zero}
-use Rattle.finite.proofs.Packed.{digit-below, digit-is}
-use Rattle.model.specs.Limits.{maxAgents, maxWeight, maxPrice}
+use Rattle.finite.proofs.Packed.{digit-is}
+use Rattle.model.specs.Limits.{maxAgents, maxWeight}
 use Rattle.model.specs.Instance.{Instance, cost, priceOf}
 use Rattle.model.specs.Sheet.{easyWeight, difficultWeight, rowOf, marksEasy, asMarked}
 use Rattle.model.specs.Prices.{ratioAtMost, best}
 use Rattle.welfare.proofs.Costs.{Weighted}
 use Rattle.sheet.specs.Readers.{RowInSheet}
 use Rattle.sheet.proofs.Marks.{mark-in-row}
+use Rattle.given.proofs.Costs.{weighed-easier, read-marked}
 use Rattle.pricecheck.specs.Worths.{worth, Weighable, worthIn, UpToEight, Rated, Column, greatestTo, Greatest}
 
 module _ (I : Instance) (w : Weighted I) (p : ℕ → ℕ) (i : ℕ) where
@@ -59,16 +60,15 @@ pub weight-left : (a b : ℕ) {cost : ℕ} (t : Bool) → cost ≡ cond t b a �
 weight-left a b true e = (omega arith, omega arith)
 weight-left a b false e = (omega arith, omega arith)
 
--- a mark as it is read
-pub weighable : {price a b mark : ℕ} → price ≤ maxPrice → a ≤ b → b ≤ maxWeight → (t : Bool) → mark ≡ cond t 1 0 → Weighable price a b mark
-weighable low easier fits t read =
-    record { priced = low; marked = record { easier = easier; either = rw read (digit-below t) }; fits = fits }
-
 -- the chore at place j of at most eight, and its mark in a byte
 module _ {prices : List ℕ} {a b first count : ℕ} (e : UpToEight prices a b first count) (byte j : ℕ) {mark : ℕ} (read : mark ≡ cond (bit byte (7 - j)) 1 0) where
   pub place-weighable : j < count → Weighable (getD prices (first + j) 0) a b mark
   place-weighable l =
-      weighable (e .bounded (first + j) (omega (arith, e .inside))) (e .easier) (e .fits) (bit byte (7 - j)) read
+      record {
+        priced = e .bounded (first + j) (omega (arith, e .inside));
+        marked = read-marked (e .easier) (bit byte (7 - j)) read;
+        fits = e .fits;
+      }
 
   place-worth : getD prices (first + j) 0 * cond (eqb mark 1) a b ≡ worthIn a b prices first byte j
   unfolding worthIn priceOf
@@ -86,12 +86,8 @@ unfolding worthIn
 easy-most prices first byte j le =
     rw (bit-zero (7 - j)) (mul-le-mul-left (priceOf prices (first + j)) (cond-le (bit byte (7 - j)) (λ _. le) (λ _. le-refl _)))
 
-module _ {s prices : List ℕ} {m a b : ℕ} (r : Rated s prices m a b) where
-  pub rated-easier : a ≤ b
-  rated-easier = omega (arith, r .weighed .easy, r .weighed .difficult, r .weighed .valid .easier)
-
-  pub rated-fits : b ≤ maxWeight
-  rated-fits = rw (r .weighed .difficult) (r .weighed .valid .weightFits)
+pub rated-fits : {s prices : List ℕ} {m a b : ℕ} → Rated s prices m a b → b ≤ maxWeight
+rated-fits r = rw (r .weighed .difficult) (r .weighed .valid .weightFits)
 
 -- the chores of a column
 module _ {s prices : List ℕ} {n m a b k count : ℕ} (col : Column s prices n m a b k count) where
@@ -99,7 +95,7 @@ module _ {s prices : List ℕ} {n m a b k count : ℕ} (col : Column s prices n 
   column-eight =
       let priced = col .rated .priced in
       record {
-        easier = rated-easier (col .rated);
+        easier = weighed-easier (col .rated .weighed);
         fits = rated-fits (col .rated);
         few = col .few;
         inside = rw (priced .size) (col .inside);
@@ -128,7 +124,7 @@ module _ {s prices : List ℕ} {n m a b k count : ℕ} (col : Column s prices n 
     -- no more even if all are marked easy
     pub column-passed : {most : ℕ} → most ≡ max 0 (maxTo count (worthIn a b prices (8 * k) 0)) → most ≤ known → known ≡ greatestTo s prices (8 * k + count) i
     column-passed told l =
-        let h = top-at-most count (λ j l. le-trans (easy-most prices (8 * k) (getD (rowOf s i) k 0) j (rated-easier (col .rated))) (top-above (worthIn a b prices (8 * k) 0) j l)) in
+        let h = top-at-most count (λ j l. le-trans (easy-most prices (8 * k) (getD (rowOf s i) k 0) j (weighed-easier (col .rated .weighed))) (top-above (worthIn a b prices (8 * k) 0) j l)) in
         omega (arith, so-far, told, h, with-column i)
 
   -- if they are worth anything, rows have such a byte
