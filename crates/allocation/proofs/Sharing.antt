@@ -2,9 +2,9 @@
 -- Assumes nothing.
 use Prim.Native.Nat.{ℕ, _-_, _≤_}
 use mathlib.Core.List.{List}
-use mathlib.Core.Path.{_≡_, sym, _∙_}
+use mathlib.Core.Path.{_≡_, sym, ap, _∙_}
 use native.Mathlib.Omega.{arith}
-use lib.ListN.{length, take, replicate}
+use lib.ListN.{length, take, replicate, length-replicate}
 use lib.Seq.{length-take-le}
 use Rattle.finite.proofs.Lists.{tab-const, tab-take}
 use Rattle.model.specs.Sheet.{agentsOf, choresOf, asRead}
@@ -13,7 +13,7 @@ use Rattle.model.specs.Record.{movesIn}
 use Rattle.records.proofs.Holding.{nothing-yet}
 use Rattle.market.specs.Opened.{OpenInto, Opened}
 use Rattle.allocation.specs.Runs.{Running, Kit}
-use Rattle.allocation.specs.Shared.{Sharing, Working}
+use Rattle.allocation.specs.Shared.{Sharing, Working, Long}
 
 -- the part `xs[0..j]` of a list of one value, and its length for any list
 pub first-of : {n k j : ℕ} {xs : List ℕ} → xs ≡ replicate n 0 → j ≡ k → k ≤ n → take (j - 0) xs ≡ replicate k 0
@@ -25,6 +25,12 @@ pub first-sized : {n k j : ℕ} (xs : List ℕ) → length xs ≡ n → j ≡ k 
 first-sized {n} {k} {j} xs e q h =
     let z : j - 0 ≡ k = omega arith in
     rw z (length-take-le k xs (rw e h))
+
+-- lists of as many entries as a sheet's chores are at most
+pub long-of : (s : List ℕ) {k : ℕ} {entitled likes : List ℕ} → choresOf s ≤ k → entitled ≡ replicate k 0 → length likes ≡ k → Long s entitled likes
+long-of s {k} {entitled} most none size =
+    let long : length entitled ≡ k = ap length none ∙ length-replicate k 0 in
+    record { noneEntitled = rw long none; entitledFit = rw long most; likesFit = rw size most }
 
 module _ {s owners prices groups entitled likes : List ℕ} (S : Sharing s owners prices) (W : Working s groups entitled likes) where
   pub opening-of : {n m : ℕ} → n ≡ agentsOf s → m ≡ choresOf s → OpenInto s n m owners prices likes

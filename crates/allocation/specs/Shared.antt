@@ -1,5 +1,5 @@
 -- The share-out of a sheet that breaks no rule, on lists of exactly one entry for each chore.
-use Prim.Native.Nat.{ℕ}
+use Prim.Native.Nat.{ℕ, _≤_}
 use mathlib.Core.List.{List}
 use mathlib.Core.Path.{_≡_}
 use lib.ListN.{length, replicate}
@@ -22,6 +22,16 @@ pub record Working (s groups entitled likes : List ℕ) : Type 0 where
   pub noGroups : groups ≡ replicate (agentsOf s) 0
   pub noneEntitled : entitled ≡ replicate (choresOf s) 0
   pub likesSized : length likes ≡ choresOf s
+
+-- so many chores are few
+abbrev pub few : ℕ
+few = 200
+
+-- lists of at least as many entries, and no chore is entitled
+pub record Long (s entitled likes : List ℕ) : Type 0 where
+  pub noneEntitled : entitled ≡ replicate (length entitled) 0
+  pub entitledFit : choresOf s ≤ length entitled
+  pub likesFit : choresOf s ≤ length likes
 
 -- the run has ended with these owners, prices and counters, and its moves are in `bytes`; its groups and entitled marks stay inside
 pub record Shared (s owners prices lent bytes : List ℕ) (moves cuts : ℕ) : Type 0 where

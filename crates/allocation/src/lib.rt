@@ -1,10 +1,12 @@
 // The share-out: Algorithm 1 on a sheet.
+ghost use Prim.Native.Nat.{_≤_};
 ghost use mathlib.Core.Path.{_≡_};
 ghost use lib.ListN.{length, replicate};
 ghost use Rattle.model.specs.Limits.{maxAgents, maxChores};
+ghost use Rattle.model.specs.Sheet.{choresOf};
 ghost use Rattle.model.specs.Refusals.{allocateRefusal};
 ghost use Rattle.model.specs.Promises.{Allocated};
-ghost use Rattle.allocation.specs.Shared.{Sharing, Working, Shared, SharedWith};
+ghost use Rattle.allocation.specs.Shared.{few, Sharing, Working, Long, Shared, SharedWith};
 
 mod run;
 
@@ -32,6 +34,21 @@ fn no_likes() -> [u32; model::MAX_CHORES]
     [0; model::MAX_CHORES]
 }
 
+// So many chores are few.
+const FEW: usize = 200;
+
+fn few_entitled() -> [u8; FEW]
+    ensures { λ r. ⌜ r ≡ replicate few 0 ⌝ }
+{
+    [0; FEW]
+}
+
+fn few_likes() -> [u32; FEW]
+    ensures { λ r. ⌜ length r ≡ few ⌝ }
+{
+    [0; FEW]
+}
+
 // The opening and the run, with working lists of the lengths that the sheet asks for.
 fn share_with(
     sheet: &[u8],
@@ -51,16 +68,21 @@ fn share_with(
     run(sheet, owners, prices, groups, entitled, likes, record)
 }
 
-// The share-out of a sheet that breaks no rule, into lists of one entry for each chore.
-pub fn share(sheet: &[u8], owners: &mut [u8], prices: &mut [u32], record: &mut [u8]) -> Counts
-    requires { ⌜ Sharing (now sheet) (now owners) (now prices) ⌝ }
+// With lists that are long enough: what is behind the entries that the sheet asks for stays as it is.
+fn share_in(
+    sheet: &[u8],
+    owners: &mut [u8],
+    prices: &mut [u32],
+    entitled: &mut [u8],
+    likes: &mut [u32],
+    record: &mut [u8],
+) -> Counts
+    requires { ⌜ Sharing (now sheet) (now owners) (now prices) × Long (now sheet) (now entitled) (now likes) ⌝ }
     ensures { λ r. ⌜ Shared (now (sheet .entry)) (now (owners .exit)) (now (prices .exit)) (now («record» .entry)) (now («record» .exit)) (r .moves) (r .cuts) ⌝ }
 {
     let n = sheet::agents(sheet);
     let m = sheet::chores(sheet);
     let mut groups = no_groups();
-    let mut entitled = none_entitled();
-    let mut likes = no_likes();
     share_with(
         sheet,
         owners,
@@ -70,6 +92,37 @@ pub fn share(sheet: &[u8], owners: &mut [u8], prices: &mut [u32], record: &mut [
         &mut likes[0..m],
         record,
     )
+}
+
+fn share_few(sheet: &[u8], owners: &mut [u8], prices: &mut [u32], record: &mut [u8]) -> Counts
+    requires { ⌜ Sharing (now sheet) (now owners) (now prices) ⌝ }
+    requires { ⌜ choresOf (now sheet) ≤ few ⌝ }
+    ensures { λ r. ⌜ Shared (now (sheet .entry)) (now (owners .exit)) (now (prices .exit)) (now («record» .entry)) (now («record» .exit)) (r .moves) (r .cuts) ⌝ }
+{
+    let mut entitled = few_entitled();
+    let mut likes = few_likes();
+    share_in(sheet, owners, prices, &mut entitled, &mut likes, record)
+}
+
+fn share_many(sheet: &[u8], owners: &mut [u8], prices: &mut [u32], record: &mut [u8]) -> Counts
+    requires { ⌜ Sharing (now sheet) (now owners) (now prices) ⌝ }
+    ensures { λ r. ⌜ Shared (now (sheet .entry)) (now (owners .exit)) (now (prices .exit)) (now («record» .entry)) (now («record» .exit)) (r .moves) (r .cuts) ⌝ }
+{
+    let mut entitled = none_entitled();
+    let mut likes = no_likes();
+    share_in(sheet, owners, prices, &mut entitled, &mut likes, record)
+}
+
+// The share-out of a sheet that breaks no rule, into lists of one entry for each chore. With few chores it is over in the time that it takes to
+// clear lists for many.
+pub fn share(sheet: &[u8], owners: &mut [u8], prices: &mut [u32], record: &mut [u8]) -> Counts
+    requires { ⌜ Sharing (now sheet) (now owners) (now prices) ⌝ }
+    ensures { λ r. ⌜ Shared (now (sheet .entry)) (now (owners .exit)) (now (prices .exit)) (now («record» .entry)) (now («record» .exit)) (r .moves) (r .cuts) ⌝ }
+{
+    if sheet::chores(sheet) <= FEW {
+        return share_few(sheet, owners, prices, record);
+    }
+    share_many(sheet, owners, prices, record)
 }
 
 // The number that a share-out is turned down with, 0 where it is not.

@@ -1,8 +1,9 @@
--- `allocation::share` meets its contract.
+-- `allocation::share_in` meets its contract: the first entries of the long lists are the working lists.
+use mathlib.Core.Path.{refl}
 use borrow.Author.Needs.{needs}
 use Rattle.allocation.proofs.Sharing.{first-of, first-sized}
-use Rattle.allocation.proofs.share.Statement.{statement}
-use Rattle.allocation.proofs.share.Tie as tie
+use Rattle.allocation.proofs.share_in.Statement.{statement}
+use Rattle.allocation.proofs.share_in.Tie as tie
 
 agents-requires : tie.Need-agents-requires
 agents-requires c κs = search needs
@@ -12,12 +13,6 @@ chores-requires c κs = search needs
 
 no-groups-requires : tie.Need-no-groups-requires
 no-groups-requires c κs = search needs
-
-none-entitled-requires : tie.Need-none-entitled-requires
-none-entitled-requires c κs = search needs
-
-no-likes-requires : tie.Need-no-likes-requires
-no-likes-requires c κs = search needs
 
 sub-share-with : tie.Need-sub-share-with
 sub-share-with c = search needs
@@ -31,34 +26,34 @@ part-groups-end c = search needs
 sub-share-with-2 : tie.Need-sub-share-with-2
 sub-share-with-2 c = search needs
 
-part-entitled-start : tie.Need-part-entitled-start
-part-entitled-start c = search needs
+part-share-with-start : tie.Need-part-share-with-start
+part-share-with-start c = search needs
 
-part-entitled-end : tie.Need-part-entitled-end
-part-entitled-end c = search needs
+part-share-with-end : tie.Need-part-share-with-end
+part-share-with-end c = search needs
 
 sub-share-with-3 : tie.Need-sub-share-with-3
 sub-share-with-3 c = search needs
 
-part-likes-start : tie.Need-part-likes-start
-part-likes-start c = search needs
+part-share-with-start-2 : tie.Need-part-share-with-start-2
+part-share-with-start-2 c = search needs
 
-part-likes-end : tie.Need-part-likes-end
-part-likes-end c = search needs
+part-share-with-end-2 : tie.Need-part-share-with-end-2
+part-share-with-end-2 c = search needs
 
 share-with-requires : tie.Need-share-with-requires
 share-with-requires c κs =
-    let likes = c .before .before .before .before .before .before in
-    let entitled = likes .before in
-    let groups = entitled .before in
+    let groups = c .before .before .before .before .before .before in
     let chores = groups .before in
-    let pre = chores .before .before .before .before .before .before .pre in
+    let start = chores .before .before .before .before .before .before .before .before in
+    let S = start .pre .0 in
+    let L = start .pre .1 in
     let m-is = chores .chores .ensures .is in (
-      pre,
+      S,
       record {
-        noGroups = first-of (groups .no-groups .ensures) (chores .before .agents .ensures .is) (pre .valid .agentsFit);
-        noneEntitled = first-of (entitled .none-entitled .ensures) m-is (pre .valid .choresFit);
-        likesSized = first-sized (likes .no-likes .result) (likes .no-likes .ensures) m-is (pre .valid .choresFit);
+        noGroups = first-of (groups .no-groups .ensures) (chores .before .agents .ensures .is) (S .valid .agentsFit);
+        noneEntitled = first-of (L .noneEntitled) m-is (L .entitledFit);
+        likesSized = first-sized (start .args .likes .now) refl m-is (L .likesFit);
       },
     )
 
@@ -71,29 +66,35 @@ same-length-2 c = search needs
 same-length-3 : tie.Need-same-length-3
 same-length-3 c = search needs
 
+same-length-4 : tie.Need-same-length-4
+same-length-4 c = search needs
+
+same-length-5 : tie.Need-same-length-5
+same-length-5 c = search needs
+
 returns : tie.Need-returns
 returns c = search needs
 
-pub share-spec : {M : Type 1} → statement M
-share-spec =
+pub share-in-spec : {M : Type 1} → statement M
+share-in-spec =
     tie.close
     (tie.spec
     agents-requires
     chores-requires
     no-groups-requires
-    none-entitled-requires
-    no-likes-requires
     sub-share-with
     part-groups-start
     part-groups-end
     sub-share-with-2
-    part-entitled-start
-    part-entitled-end
+    part-share-with-start
+    part-share-with-end
     sub-share-with-3
-    part-likes-start
-    part-likes-end
+    part-share-with-start-2
+    part-share-with-end-2
     share-with-requires
     same-length
     same-length-2
     same-length-3
+    same-length-4
+    same-length-5
     returns)
