@@ -1,6 +1,6 @@
 // The share-out for C, without a record of its moves and with one: prices as bytes, moves and cuts in lent memory.
 
-ghost use Prim.Native.Nat.{_/_, min};
+ghost use Prim.Native.Nat.{_/_, _≤_, min};
 ghost use mathlib.Core.Path.{_≡_};
 ghost use lib.ListN.{length};
 ghost use Rattle.model.specs.Limits.{maxChores};
@@ -51,6 +51,16 @@ fn lent_for(bytes: usize) -> usize
     pricebytes::entries(bytes, model::MAX_CHORES)
 }
 
+// A list for so many prices is cleared in less time than one for MAX_CHORES.
+const FEW: usize = 200;
+
+// Only its length counts.
+fn for_few() -> [u32; FEW]
+    ensures { λ r. ⌜ length r ≡ 200 ⌝ }
+{
+    [0; FEW]
+}
+
 // `lent` is for the prices as numbers.
 fn allocate_with(
     sheet: &[u8],
@@ -61,7 +71,7 @@ fn allocate_with(
     moves: &mut u64,
     cuts: &mut u8,
 ) -> u8
-    requires { ⌜ length (now lent) ≡ maxChores ⌝ }
+    requires { ⌜ min (length (now prices) / 4) maxChores ≤ length (now lent) ⌝ }
     ensures { λ r. ⌜ AllocatedInC (now (sheet .entry)) (now (owners .entry)) (now (prices .entry)) (now (scratch .entry)) (now (owners .exit)) (now (prices .exit)) (now (scratch .exit)) (now (moves .entry)) (now (cuts .entry)) (now (moves .exit)) (now (cuts .exit)) r ⌝ }
 {
     let entries = lent_for(prices.len());
@@ -80,6 +90,10 @@ pub fn allocate(
 ) -> u8
     ensures { λ r. ⌜ AllocatedInC (now (sheet .entry)) (now (owners .entry)) (now (prices .entry)) (now (scratch .entry)) (now (owners .exit)) (now (prices .exit)) (now (scratch .exit)) (now (moves .entry)) (now (cuts .entry)) (now (moves .exit)) (now (cuts .exit)) r ⌝ }
 {
+    if lent_for(prices.len()) <= FEW {
+        let mut lent = for_few();
+        return allocate_with(sheet, owners, prices, scratch, &mut lent, moves, cuts);
+    }
     let mut lent = pricebytes::for_chores();
     allocate_with(sheet, owners, prices, scratch, &mut lent, moves, cuts)
 }
