@@ -85,7 +85,7 @@ fn greatest_in_byte(
 }
 
 // The greatest worths so far, with `count` chores more: those whose marks are in byte k of a row. To nobody are they worth more than if all were
-// marked easy, so most agents' marks need not be read.
+// marked easy, so most agents' marks need not be read; none are where `count` is 0.
 fn raise(
     sheet: &[u8],
     prices: &[u32],
