@@ -84,7 +84,7 @@ extern "C" {
 #define SHARES_MOST_MOVES(n, m) (SHARES_AS(uint64_t, n) * (SHARES_AS(uint64_t, n) - 1) * SHARES_AS(uint64_t, m))
 
 /* The most stack that each call takes, in bytes, on x86-64: each less than 128 KB. */
-#define SHARES_STACK_ALLOCATE 36864
+#define SHARES_STACK_ALLOCATE 37888
 #define SHARES_STACK_ALLOCATE_RECORDED 57344
 #define SHARES_STACK_CHECK_LIST 512
 #define SHARES_STACK_CHECK_PRICES 17408
