@@ -20,7 +20,7 @@ use Rattle.model.specs.Fairness.{dominates, isAllocation}
 use Rattle.model.specs.Algorithm.{Outcome, busy, done, lacking, after}
 use Rattle.model.specs.Record.{movesIn, recordOf}
 use Rattle.model.specs.Refusals.{sheetRefusal}
-use Rattle.model.specs.Cases.{Case, shared-out, judged, spelled, lent, recorded, lent-record, joins, lent-join, marked, asked, listed, shown, priced, Shares, Records, Meets, MeetsAll}
+use Rattle.model.specs.Cases.{Case, shared-out, judged, spelled, lent, lent-book, recorded, lent-record, joins, lent-join, marked, asked, listed, shown, priced, Shares, Records, Meets, MeetsAll}
 use Rattle.model.proofs.Allocations.{allocation-picks}
 
 -- what an outcome shows of a run that has ended
@@ -52,6 +52,7 @@ Computed enough (shared-out s owners prices moves cuts) = (sheetRefusal s ≡ 0)
 Computed enough (judged s k) = Meets (judged s k)
 Computed enough (spelled s bytes) = Meets (spelled s bytes)
 Computed enough (lent s owners prices scratch k) = Meets (lent s owners prices scratch k)
+Computed enough (lent-book book owners prices scratch k) = Meets (lent-book book owners prices scratch k)
 Computed enough (recorded s bytes) = (sheetRefusal s ≡ 0) × (isDone (after (asRead s) enough) ≡ true) × (recordOf (movesIn (asRead s) enough) ≡ bytes)
 Computed enough (lent-record s owners prices scratch moves bytes k) = Meets (lent-record s owners prices scratch moves bytes k)
 Computed enough (joins first second whole) = Meets (joins first second whole)
@@ -106,6 +107,7 @@ met enough (shared-out s owners prices moves cuts) h = ran s owners prices moves
 met enough (judged s k) h = h
 met enough (spelled s bytes) h = h
 met enough (lent s owners prices scratch k) h = h
+met enough (lent-book book owners prices scratch k) h = h
 met enough (recorded s bytes) h = wrote s bytes enough (after (asRead s) enough) (h .0) refl (h .1) (h .2)
 met enough (lent-record s owners prices scratch moves bytes k) h = h
 met enough (joins first second whole) h = h

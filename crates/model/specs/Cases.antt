@@ -15,7 +15,7 @@ use Rattle.model.specs.Fairness.{dominates, isAllocation}
 use Rattle.model.specs.Algorithm.{State, Ends}
 use Rattle.model.specs.Record.{movesIn, recordOf}
 use Rattle.model.specs.Strands.{joinedSheet, strandMarks}
-use Rattle.model.specs.Refusals.{sheetRefusal, allocateRefusal, recordedRefusal, strandsRefusal, joinRefusal, showRefusal}
+use Rattle.model.specs.Refusals.{sheetRefusal, allocateRefusal, recordedRefusal, strandsRefusal, joinRefusal, showRefusal, bookRefusal}
 use Rattle.model.specs.Replies.{Reply}
 use Rattle.model.specs.Verdicts.{listCheck, priceCheck}
 
@@ -57,6 +57,8 @@ pub data Case : Type 0 where
   spelled : List ℕ → List ℕ → Case
   -- the refusal number of a sheet's share-out, with lent owners, prices and scratch of so many entries
   lent : List ℕ → ℕ → ℕ → ℕ → ℕ → Case
+  -- the refusal number of a book, with lent owners, prices and scratch of so many entries
+  lent-book : List ℕ → ℕ → ℕ → ℕ → ℕ → Case
   -- the record of a sheet's share-out
   recorded : List ℕ → List ℕ → Case
   -- the refusal number of a share-out with a record, with lent owners, prices and scratch of so many entries, moves and bytes
@@ -104,6 +106,7 @@ Meets (shared-out s owners prices moves cuts) = Shares s owners prices moves cut
 Meets (judged s k) = sheetRefusal s ≡ k
 Meets (spelled s bytes) = s ≡ bytes
 Meets (lent s owners prices scratch k) = allocateRefusal s owners prices scratch ≡ k
+Meets (lent-book book owners prices scratch k) = bookRefusal book owners prices scratch ≡ k
 Meets (recorded s bytes) = Records s bytes
 Meets (lent-record s owners prices scratch moves bytes k) = recordedRefusal s owners prices scratch moves bytes ≡ k
 Meets (joins first second whole) = (strandsRefusal first second ≡ 0) × (joinedSheet first second ≡ whole)

@@ -17,9 +17,9 @@ maxWeight = 1000
 abbrev pub maxPrice : ℕ
 maxPrice = 1000000
 
--- "scratch under 1,024 bytes"
+-- document 02, request 7: "Number 8 is given from now on for scratch under 64 bytes"
 abbrev pub scratchSize : ℕ
-scratchSize = 1024
+scratchSize = 64
 
 -- "k, the count of sheets, 1 to 16"
 abbrev pub maxSheets : ℕ

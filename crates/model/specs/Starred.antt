@@ -6,10 +6,14 @@ use lib.ListN.{replicate}
 use Rattle.finite.specs.Packed.{bytesFor}
 use Rattle.model.specs.Strands.{joinedSheet}
 use Rattle.model.specs.Replies.{holds, unfair, wasteful, offPrice, accepted}
-use Rattle.model.specs.Cases.{header, sheet, row, Case, shared-out, judged, spelled, lent, recorded, lent-record, joins, lent-join, marked, asked, listed, shown, priced}
+use Rattle.model.specs.Cases.{header, sheet, row, Case, shared-out, judged, spelled, lent, lent-book, recorded, lent-record, joins, lent-join, marked, asked, listed, shown, priced}
 
 unfoldable pub sheetC : List ℕ
 sheetC = sheet 1 3 ("eeeee" ∷ "dddde" ∷ [])
+
+-- a book that holds only sheet C
+unfoldable pub bookC : List ℕ
+bookC = 1 ∷ 0 ∷ 5 ∷ 0 ∷ 9 ∷ sheetC
 
 unfoldable pub sheetD : List ℕ
 sheetD = sheet 1 2 ("eee" ∷ "eee" ∷ [])
@@ -109,18 +113,22 @@ table =
     ∷ judged (0 ∷ 0 ∷ 0 ∷ 0 ∷ 1 ∷ 0 ∷ []) 5
     -- a row of 9 difficult marks only is read as easy, and one whose ninth mark, in another byte, is easy is not
     ∷ shared-out (sheet 1 3 ("ddddddddd" ∷ "dddddddde" ∷ [])) (2 ∷ 2 ∷ 2 ∷ 2 ∷ 1 ∷ 1 ∷ 1 ∷ 1 ∷ 2 ∷ []) (3 ∷ 3 ∷ 3 ∷ 3 ∷ 3 ∷ 3 ∷ 3 ∷ 3 ∷ 1 ∷ []) 5 1
-    -- scratch 1,024 and 1,023, with an entry for each chore and with one fewer
-    ∷ lent sheetC 5 5 1024 0
-    ∷ lent sheetC 5 5 1023 8
-    ∷ lent sheetC 4 5 1024 8
-    ∷ lent sheetC 5 4 1024 8
+    -- document 02, request 7: "the scratch cases to try become 64 and 63"; an entry for each chore, and one fewer
+    ∷ lent sheetC 5 5 64 0
+    ∷ lent sheetC 5 5 63 8
+    ∷ lent sheetC 4 5 64 8
+    ∷ lent sheetC 5 4 64 8
+    ∷ lent-book bookC 64000 64000 64 0
+    ∷ lent-book bookC 64000 64000 63 8
+    -- a book's 9 comes before its 8
+    ∷ lent-book [] 64000 64000 63 9
     -- the record of sheet C, and of a sheet with a move in 2a
     ∷ recorded sheetC (0 ∷ 5 ∷ 1 ∷ 2 ∷ 1 ∷ 2 ∷ 0 ∷ 1 ∷ 1 ∷ 2 ∷ 2 ∷ 2 ∷ 0 ∷ 2 ∷ 1 ∷ 2 ∷ 2 ∷ 2 ∷ [])
     ∷ recorded sheet2a (0 ∷ 3 ∷ 2 ∷ 3 ∷ 1 ∷ 2 ∷ 0 ∷ 9 ∷ 2 ∷ 3 ∷ 1 ∷ 2 ∷ 0 ∷ 1 ∷ 2 ∷ 1 ∷ 2 ∷ 2 ∷ 0 ∷ 4 ∷ 2 ∷ 1 ∷ 2 ∷ 2 ∷ 0 ∷ 1 ∷ 1 ∷ 3 ∷ 3 ∷ 1 ∷ 0 ∷ 5 ∷ 2 ∷ 1 ∷ 3 ∷ 2 ∷ 0 ∷ 6 ∷ 2 ∷ 3 ∷ 3 ∷ 2 ∷ [])
     -- a record of 18 bytes and of 17 for three moves; 11 comes after 8
-    ∷ lent-record sheetC 5 5 1024 3 18 0
-    ∷ lent-record sheetC 5 5 1024 3 17 11
-    ∷ lent-record sheetC 5 5 1023 3 17 8
+    ∷ lent-record sheetC 5 5 64 3 18 0
+    ∷ lent-record sheetC 5 5 64 3 17 11
+    ∷ lent-record sheetC 5 5 63 3 17 8
     -- document 02, request 4: two strands, of 2 and 3 chores; a strand of no chores
     ∷ joins strand1 strand2 (sheet 1 3 ("ddede" ∷ "eddee" ∷ []))
     ∷ joins (sheet 1 3 ("" ∷ "" ∷ [])) strand2 strand2

@@ -81,7 +81,7 @@ pub const MAX_WEIGHT: u32 = 1000;
 
 pub const MAX_PRICE: u32 = 1000000;
 
-pub const SCRATCH_SIZE: usize = 1024;
+pub const SCRATCH_SIZE: usize = 64;
 
 pub const MAX_SHEETS: usize = 16;
 
