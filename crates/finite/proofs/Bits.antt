@@ -153,6 +153,14 @@ set-or {n} {v} {w} s r =
       member = λ i l. bit-or v w i ∙ ap₂ _||_ (s .member i l) (r .member i l);
     }
 
+-- a number more
+pub set-insert : {n w k : ℕ} {t : ℕ → Bool} → SetOf n w t → k < n → SetOf n (bitOr w (2 ^ k)) (λ i. t i || eqb i k)
+set-insert {n} {w} {k} s l =
+    record {
+      below = or-lt n w (2 ^ k) (s .below) (pow-lt l);
+      member = λ i h. bit-insert w k i ∙ ap (λ b. b || eqb i k) (s .member i h);
+    }
+
 -- the bound grown by one: the new number fails, or passes and is put in
 pub set-skip : {k w : ℕ} {t : ℕ → Bool} → SetOf k w t → t k ≡ false → SetOf (k + 1) w t
 set-skip {k} {w} {t} s e =

@@ -7,6 +7,7 @@ pub mod Counts
 pub mod Fibres
 pub mod Moves
 pub mod Lists
+pub mod Passing
 pub mod Rewriting
 pub mod Extremes
 pub mod Sweeps

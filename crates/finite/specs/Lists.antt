@@ -1,6 +1,6 @@
 -- Lists made by index, and all lists of a length over the numbers from 1 to n.
 use Prim.Native.Nat.{ℕ, zero, suc, _*_, _+_, _≤_, _<_}
-use mathlib.Core.Bool.{Bool}
+use mathlib.Core.Bool.{Bool, cond}
 use mathlib.Core.List.{List, [], _∷_, _++_}
 use mathlib.Core.Path.{_≡_}
 use lib.ListN.{length, getD}
@@ -11,7 +11,12 @@ unfoldable pub tabulate : ℕ → (ℕ → ℕ) → List ℕ
 tabulate zero f = []
 tabulate (suc k) f = tabulate k f ++ (f k ∷ [])
 
--- xs is that list, said entry by entry
+-- the numbers below n that pass, in their order
+unfoldable pub passing : ℕ → (ℕ → Bool) → List ℕ
+passing zero t = []
+passing (suc k) t = passing k t ++ cond (t k) (k ∷ []) []
+
+-- xs is f 0, .., f (n - 1), said entry by entry
 pub record Table (n : ℕ) (f : ℕ → ℕ) (xs : List ℕ) : Type 0 where
   pub size : length xs ≡ n
   pub entry : (i : ℕ) → i < n → getD xs i 0 ≡ f i

@@ -2,8 +2,7 @@
 ghost use mathlib.Core.Path.{_≡_};
 ghost use Prim.Native.Nat.{_≤_, _<_};
 ghost use lib.ListN.{length, getD};
-ghost use lib.Dec.{eqb, ltb};
-ghost use Rattle.finite.specs.Bits.{SetOf};
+ghost use lib.Dec.{ltb};
 ghost use Rattle.finite.specs.Sums.{minTo};
 ghost use Rattle.finite.specs.Search.{anyBelow};
 ghost use Rattle.model.specs.Limits.{maxAgents};
@@ -23,22 +22,6 @@ pub fn least_of(n: usize, sums: &[u32]) -> u32
         i += 1;
     }
     least
-}
-
-// The agents whose sum is the least, all of them: the search starts from these.
-pub fn of_sum(n: usize, sums: &[u32], least: u32) -> u32
-    requires { ⌜ (n ≤ maxAgents) × (n ≤ length (now sums)) ⌝ }
-    ensures { λ r. ⌜ SetOf n r (λ i. eqb (getD (now (sums .entry)) i 0) least) ⌝ }
-{
-    let mut start = 0u32;
-    let mut i = 0;
-    while i < n {
-        if sums[i] == least {
-            start = with(start, i);
-        }
-        i += 1;
-    }
-    start
 }
 
 pub fn any_above(n: usize, ups: &[u32], least: u32) -> bool

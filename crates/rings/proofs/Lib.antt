@@ -1,4 +1,7 @@
 pub mod Offering
 pub mod Wanting
+pub mod InLine
+pub mod Started
 pub mod Ringed
+pub mod Rounds
 pub mod Found

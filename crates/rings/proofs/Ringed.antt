@@ -1,27 +1,32 @@
--- The rings of the search as sets in words: from the start on, one ring further, and what the search has found where it ends.
+-- The search of 2b over its line: from the start on, one agent and one ring further, and what it has found where it ends.
 -- Assumes nothing.
-use Prim.Native.Nat.{ℕ, suc, _+_, _-_, _<_}
-use mathlib.Core.Bool.{Bool, true, false, not, _&&_, _||_}
+use Prim.Native.Nat.{ℕ, zero, suc, _+_, _-_, _≤_, _<_}
+use mathlib.Core.Bool.{Bool, true, false, not, _&&_}
 use mathlib.Core.List.{List}
-use mathlib.Core.Path.{_≡_, refl, sym, ap₂, _∙_}
-use native.Mathlib.Numerals.{add-one}
+use mathlib.Core.Path.{_≡_, refl, sym, ap, ap₂, _∙_}
+use native.Mathlib.Nat.{le-refl}
 use native.Mathlib.Omega.{arith}
-use lib.Bits.{bitAnd, bitOr}
-use lib.Dec.{ltb}
-use lib.ListN.{getD}
+use lib.Bits.{bitAnd}
+use lib.Dec.{eqb, ltb}
+use lib.ListN.{length, getD, set}
 use borrow.Author.Tests.{lt-ltb, le-ltb, ltb-true, not-true}
-use Rattle.finite.specs.Bits.{bit, SetOf}
-use Rattle.finite.specs.Search.{firstBelow, First}
-use Rattle.finite.proofs.Tests.{by-test, bool-eq, clash, and-elim, and-intro, and-rest, and-no-left, and-no-right, or-left, or-right, or-rest, or-cases, not-on, not-yes}
-use Rattle.finite.proofs.Search.{any-intro, any-elim, any-none-intro, first-none, first-unique, First-stop, First-cong}
-use Rattle.finite.proofs.Reach.{reach-still-eq}
-use Rattle.finite.proofs.Bits.{set-and, set-or, set-cong, set-empty, set-some}
+use Rattle.finite.specs.Bits.{SetOf}
+use Rattle.finite.specs.Search.{First}
+use Rattle.finite.proofs.Tests.{by-test, bool-eq, clash, and-elim, and-intro, and-no-left, and-no-right, not-on, not-yes}
+use Rattle.finite.proofs.Below.{by-top, by-less, by-same}
+use Rattle.finite.proofs.Search.{any-intro, any-elim, any-none-intro, first-unique}
+use Rattle.finite.proofs.Distances.{reach-distance}
+use Rattle.finite.proofs.Bits.{set-and, set-cong, set-some}
+use Rattle.model.specs.Limits.{maxAgents, scratchSize}
 use Rattle.model.specs.Instance.{Instance}
 use Rattle.model.specs.Prices.{priceUpToOne}
 use Rattle.model.specs.Step2b.{leastSum, above, supplies, ofLeastSum, within, reachable, atDistance, ring2b, due2b, giver2b}
 use Rattle.algorithm.proofs.UpToOne.{up-le}
-use Rattle.algorithm.proofs.Rings.{of-least, within-zero, within-kept, within-more, at-within, distance-said, due-found, is-due}
-use Rattle.rings.specs.Search.{inNextRing, Searching, Searched, Answered}
+use Rattle.algorithm.proofs.Rings.{of-least, within-zero, within-more, at-within, in-ring, distance-said, due-found, is-due}
+use Rattle.rings.specs.Line.{ringsBefore, lineTo, inLine, Lined, isReached, standsAt, Started}
+use Rattle.rings.specs.Search.{inNextRing, Searching, Searched}
+use Rattle.rings.proofs.InLine.{in-before, in-here, in-cases, line-next, line-zero, line-skip, lined-all, lined-skip, lined-next, longer, lined-take, ring-stands, ring-empty}
+use Rattle.rings.proofs.Started.{unreached-by, reached-by, started-ended, started-lined}
 
 and-swap : (a b : Bool) → (a && b) ≡ (b && a)
 and-swap true true = refl
@@ -29,191 +34,229 @@ and-swap true false = refl
 and-swap false true = refl
 and-swap false false = refl
 
--- the ring at distance t and everyone within it, none of them above the least sum
-pub record Ringed (I : Instance) (x p : ℕ → ℕ) (t ring reached : ℕ) : Type 0 where
-  pub here : SetOf (I .n) ring (atDistance I x p t)
-  pub near : SetOf (I .n) reached (within I x p t)
-  pub calm : (i : ℕ) → i < I .n → within I x p t i ≡ true → above I x p i ≡ false
+-- The search has come to agent g of ring t, and nobody in line is above the least sum.
+pub record Ringed (I : Instance) (x p : ℕ → ℕ) (t g end : ℕ) (lent scratch : List ℕ) : Type 0 where
+  pub lined : Lined (I .n) (atDistance I x p) t g lent scratch
+  pub ended : end ≡ length (lineTo (I .n) (atDistance I x p) t g)
+  pub calm : (i : ℕ) → i < I .n → inLine (atDistance I x p) t g i ≡ true → above I x p i ≡ false
 
-module _ (I : Instance) (x p : ℕ → ℕ) where
-  -- one ring further
-  within-next : (t i : ℕ) → (within I x p t i || atDistance I x p (suc t) i) ≡ within I x p (suc t) i
-  unfolding atDistance
-  within-next t i =
+module _ (I : Instance) (x p : ℕ → ℕ) (some : 0 < I .n) where
+  at-apart : (s t i : ℕ) → s < t → atDistance I x p s i ≡ true → atDistance I x p t i ≡ true → ⊥
+  at-apart s zero i l a b = omega arith
+  at-apart s (suc t) i l a b =
+      clash (within-more I x p some (omega arith) i (at-within I x p s i a)) (distance-said I x p t i .0 b .0)
+
+  -- an agent has one distance
+  pub at-once : (s t i : ℕ) → atDistance I x p s i ≡ true → atDistance I x p t i ≡ true → s ≡ t
+  at-once s t i a b =
+      by-less s t (λ l. absurd (at-apart s t i l a b))
+      (λ l. by-same s t (λ e. e) (λ e. let h : t < s = omega arith in absurd (at-apart t s i h b a)))
+
+  -- which is below n
+  at-below : (t i : ℕ) → i < I .n → atDistance I x p t i ≡ true → t < I .n
+  unfolding within
+  at-below t i l a =
+      reach-distance (I .n) (ofLeastSum I x p) (supplies I x p) t i l (at-within I x p t i a)
+      (λ s h. not-yes (within I x p s i) (λ b. let r = in-ring I x p s i b in at-apart (r .ring) t i (omega (arith, r .atMost)) (r .held) a))
+
+  -- whoever is within distance t stands in line when ring t + 1 begins
+  pub in-within : (t g i : ℕ) → i < I .n → g ≤ i → inLine (atDistance I x p) (suc t) g i ≡ within I x p t i
+  in-within t g i l h =
       bool-eq
-      (λ e. or-cases (within I x p t i) (atDistance I x p (suc t) i) e (within-kept I x p t i) (at-within I x p (suc t) i))
-      (λ e. by-test (within I x p t i) (or-left _) (λ a. or-right (within I x p t i) (and-intro e (not-on a))))
+      (λ a. in-cases (atDistance I x p) (suc t) g i a (λ s b e. within-more I x p some (omega arith) i (at-within I x p s i e)) (λ e b. absurd (omega arith)))
+      (λ a. let r = in-ring I x p t i a in in-before (atDistance I x p) (suc t) g i (r .ring) (omega (arith, r .atMost)) (r .held))
 
-  -- nobody reachable above the least sum: no move is due
-  calm-none : 0 < I .n → ((i : ℕ) → i < I .n → reachable I x p i ≡ true → above I x p i ≡ false) → due2b I x p ≡ false
-  unfolding reachable above
-  calm-none some calm =
-      not-yes (due2b I x p) λ e.
-      let d = due-found I x p some e in
-      clash (lt-ltb _ _ (d .giverAbove)) (calm (giver2b I x p) (d .giver) (within-more I x p some (d .distance) _ (d .inRing)))
+  -- and its byte says so
+  pub reached-line : (t g : ℕ) {lent scratch : List ℕ} → Lined (I .n) (atDistance I x p) t g lent scratch → (i : ℕ) → i < I .n → isReached scratch i ≡ inLine (atDistance I x p) t g i
+  reached-line t g {scratch = scratch} L i l =
+      by-test (inLine (atDistance I x p) t g i)
+      (λ a. in-cases (atDistance I x p) t g i a
+      (λ s b e. reached-by scratch i (s + 1) (L .distance i s l a e) (omega arith) ∙ sym a)
+      (λ e b. reached-by scratch i (t + 1) (L .distance i t l a e) (omega arith) ∙ sym a))
+      (λ a. unreached-by scratch i (L .unreached i l a) ∙ sym a)
 
--- the search stops at ring t: nobody further is reachable
-module _ {I : Instance} {x p : ℕ → ℕ} (some : 0 < I .n) (t : ℕ) {ring reached : ℕ} (r : Ringed I x p t ring reached) where
-  still : ((i : ℕ) → i < I .n → within I x p t i ≡ reachable I x p i) → {giver : ℕ} (takers : ℕ) → giver ≡ I .n → Searched I x p giver takers reached
-  still all takers e =
+  -- in the line of all rings stands everyone reachable
+  pub line-reachable : (i : ℕ) → i < I .n → inLine (atDistance I x p) (I .n) 0 i ≡ reachable I x p i
+  unfolding reachable
+  line-reachable i l =
+      bool-eq
+      (λ a. in-cases (atDistance I x p) (I .n) 0 i a (λ s b e. within-more I x p some (omega arith) i (at-within I x p s i e)) (λ e b. absurd (omega arith)))
+      (λ a. let r = in-ring I x p (I .n) i a in in-before (atDistance I x p) (I .n) 0 i (r .ring) (at-below (r .ring) i l (r .held)) (r .held))
+
+  -- behind an empty ring all are empty
+  rings-empty : (t : ℕ) → ((i : ℕ) → i < I .n → atDistance I x p t i ≡ false) → (s i : ℕ) → t ≤ s → i < I .n → atDistance I x p s i ≡ false
+  rings-empty t none zero i l h = let e : t ≡ 0 = omega arith in rw (← e) (none i h)
+  rings-empty t none (suc s) i l h =
+      by-less s t
+      (λ b. let e : t ≡ suc s = omega arith in rw (← e) (none i h))
+      (λ b. not-yes (atDistance I x p (suc s) i) (λ a. let v = distance-said I x p s i .0 a .1 in clash (v .there) (rings-empty t none s (v .agent) b (v .below))))
+
+module _ {I : Instance} {x p : ℕ → ℕ} {offers sums ups : List ℕ} {least : ℕ} (S : Searching I x p offers sums ups least) where
+  -- those of least sum are ring 0
+  start-at : (i : ℕ) → i < I .n → eqb (getD sums i 0) least ≡ atDistance I x p 0 i
+  unfolding atDistance ofLeastSum
+  start-at i l = ap₂ eqb (S .sum i l) (S .leastIs) ∙ sym (within-zero I x p i)
+
+  pub ringed-start : {lent scratch : List ℕ} {end : ℕ} → Started (I .n) sums least lent scratch end → Ringed I x p 0 (I .n) end lent scratch
+  unfolding atDistance above
+  ringed-start T =
       record {
-        limit = omega arith;
-        due = λ l. absurd (omega arith);
-        gives = λ l. absurd (omega arith);
-        takes = λ l. absurd (omega arith);
-        none = λ q. calm-none I x p some (λ i l a. r .calm i l (all i l ∙ a));
-        all = λ q. set-cong all (r .near);
+        lined = started-lined (I .n) sums least (atDistance I x p) start-at T (λ s i. at-once I x p (S .some) s 0 i);
+        ended = started-ended (I .n) sums least (atDistance I x p) start-at T;
+        calm =
+            λ i l a. in-cases (atDistance I x p) 0 (I .n) i a (λ s b. absurd (omega arith))
+            (λ e b.
+            let sum = of-least I x p i (sym (within-zero I x p i) ∙ e) in
+            le-ltb (leastSum I x p) (priceUpToOne (I .m) x p i) (omega (arith, up-le (I .m) x p i)));
       }
 
-  -- ring n: a distance is below n
-  pub search-ends : t ≡ I .n → {giver : ℕ} (takers : ℕ) → giver ≡ I .n → Searched I x p giver takers reached
-  unfolding reachable
-  search-ends e = still (λ i l. rw e)
-
-  -- an empty ring t + 1
-  pub search-closes : SetOf (I .n) 0 (atDistance I x p (suc t)) → {giver : ℕ} (takers : ℕ) → giver ≡ I .n → Searched I x p giver takers reached
-  unfolding reachable within atDistance
-  search-closes next =
-      still
-      (reach-still-eq (I .n) (ofLeastSum I x p) (supplies I x p) t (λ i l a. by-test (within I x p t i) (λ b. b) (λ b. absurd (clash (and-intro a (not-on b)) (set-empty next i l)))))
-
-  -- agent i is the first of ring t + 1 above the least sum
-  module _ (room : t < I .n) {i : ℕ} (first : First (I .n) (λ j. atDistance I x p (suc t) j && above I x p j) i) where
-    found-both : (atDistance I x p (suc t) i ≡ true) × (above I x p i ≡ true)
-    found-both = and-elim (atDistance I x p (suc t) i) (above I x p i) (first .passes)
-
-    found-ring : ring2b I x p ≡ suc t
-    unfolding ring2b
-    found-ring =
-        first-unique (record {
-          below = omega arith;
-          passes = any-intro _ i (first .below) (first .passes);
-          before = λ s l. any-none-intro (I .n) _ (λ j h. by-test (atDistance I x p s j) (λ a. and-no-right (atDistance I x p s j) (r .calm j h (within-more I x p some (omega arith) j (at-within I x p s j a)))) (and-no-left (above I x p j)));
-        })
-
-    found-giver : giver2b I x p ≡ i
-    unfolding giver2b
-    found-giver = rw found-ring (first-unique first)
-
-    pub search-finds : {takers : ℕ} → SetOf (I .n) takers (λ j. supplies I x p i j && atDistance I x p t j) → Searched I x p i takers reached
-    unfolding above
-    search-finds s =
-        record {
-          limit = omega (arith, first .below);
-          due = λ l. is-due I x p some (suc t) i room l (at-within I x p (suc t) i (found-both .0)) (ltb-true _ _ (found-both .1));
-          gives = λ l. sym found-giver;
-          takes = λ l. let e : ring2b I x p - 1 ≡ t = omega (arith, found-ring) in rw (e, found-giver) (set-cong (λ j h. and-swap (supplies I x p i j) (atDistance I x p t j)) s);
-          none = λ q. absurd (omega (arith, first .below));
-          all = λ q. absurd (omega (arith, first .below));
-        }
-
-module _ {I : Instance} {x p : ℕ → ℕ} {offers ups : List ℕ} {least start : ℕ} (s : Searching I x p offers ups least start) where
-  -- the start is ring 0
-  pub ringed-start : Ringed I x p 0 start start
-  unfolding atDistance above
-  ringed-start =
-      let zero = set-cong (λ i l. sym (within-zero I x p i)) (s .startIs) in
+  -- the next ring begins
+  pub ringed-next : {t end : ℕ} {lent scratch : List ℕ} → Ringed I x p t (I .n) end lent scratch → Ringed I x p (suc t) 0 end lent scratch
+  ringed-next {t} R =
       record {
-        here = zero;
-        near = zero;
+        lined = lined-next (R .lined);
+        ended = R .ended ∙ ap length (line-next (I .n) (atDistance I x p) t ∙ sym (line-zero (I .n) (atDistance I x p) (suc t)));
         calm =
-            λ i l e.
-            let sum = of-least I x p i (sym (within-zero I x p i) ∙ e) in
-            le-ltb (leastSum I x p) (priceUpToOne (I .m) x p i) (omega (arith, up-le (I .m) x p i));
+            λ i l a. R .calm i l (in-cases (atDistance I x p) (suc t) 0 i a
+            (λ s h e. by-top h (λ q. in-here (atDistance I x p) t (I .n) i (rw q at e) l) (λ b. in-before (atDistance I x p) t (I .n) i s b e))
+            (λ e h. absurd (omega arith)));
       }
 
   -- the test of the code
   above-at : (i : ℕ) → i < I .n → ltb least (getD ups i 0) ≡ above I x p i
   unfolding above
-  above-at i l = rw (s .leastIs, s .up i l)
+  above-at i l = rw (S .leastIs, S .up i l)
 
-  module _ (t : ℕ) {ring reached : ℕ} (r : Ringed I x p t ring reached) where
+  module _ {t end : ℕ} {lent scratch : List ℕ} {i ring : ℕ} (l : i < I .n) (R : Ringed I x p (suc t) i end lent scratch) (here : SetOf (I .n) ring (atDistance I x p t)) where
     -- those of the ring for whom agent i has an offer
-    pub taken-at : (i : ℕ) → i < I .n → SetOf (I .n) (bitAnd (getD offers i 0) ring) (λ j. supplies I x p i j && atDistance I x p t j)
-    taken-at i l = set-and (s .offered i l) (r .here)
+    pub taken-at : SetOf (I .n) (bitAnd (getD offers i 0) ring) (λ j. supplies I x p i j && atDistance I x p t j)
+    taken-at = set-and (S .offered i l) here
 
     -- whoever is not reached and has an offer for the ring is in the next one
-    next-ring-at : (i : ℕ) → i < I .n → inNextRing offers ring reached i ≡ atDistance I x p (suc t) i
+    next-at : inNextRing offers ring scratch i ≡ atDistance I x p (suc t) i
     unfolding inNextRing
-    next-ring-at i l =
-        let offer = set-some (taken-at i l) in
+    next-at =
+        let offer = set-some taken-at in
+        let near = reached-line I x p (S .some) (suc t) i (R .lined) i l ∙ in-within I x p (S .some) t i i l (le-refl i) in
         bool-eq
         (λ e.
-        let both = and-elim (not (bit reached i)) _ e in
-        let far = sym (r .near .member i l) ∙ not-true (bit reached i) (both .0) in
+        let both = and-elim (not (isReached scratch i)) _ e in
+        let far = sym near ∙ not-true (isReached scratch i) (both .0) in
         let v = any-elim (I .n) _ (offer ∙ both .1) in
         let two = and-elim (supplies I x p i (v .index)) _ (v .passes) in
         distance-said I x p t i .1 (far, record { agent = v .index; below = v .below; there = two .1; supplied = two .0 }))
         (λ e.
         let (far, v) = distance-said I x p t i .0 e in
-        and-intro (not-on (r .near .member i l ∙ far)) (sym offer ∙ any-intro _ (v .agent) (v .below) (and-intro (v .supplied) (v .there))))
+        and-intro (not-on (near ∙ far)) (sym offer ∙ any-intro _ (v .agent) (v .below) (and-intro (v .supplied) (v .there))))
 
-    module _ {next : ℕ} (new : SetOf (I .n) next (inNextRing offers ring reached)) where
-      pub next-at : SetOf (I .n) next (atDistance I x p (suc t))
-      next-at = set-cong next-ring-at new
-
-      giver-at : (i : ℕ) → i < I .n → (bit next i && ltb least (getD ups i 0)) ≡ (atDistance I x p (suc t) i && above I x p i)
-      giver-at i l = ap₂ _&&_ (next-at .member i l) (above-at i l)
-
-      -- nobody in the new ring is above the least sum: one ring further
-      pub ringed-next : firstBelow (I .n) (λ i. bit next i && ltb least (getD ups i 0)) ≡ I .n → Ringed I x p (suc t) next (bitOr reached next)
-      ringed-next e =
-          record {
-            here = next-at;
-            near = set-cong (λ i l. within-next I x p t i) (set-or (r .near) next-at);
-            calm = λ i l a. by-test (within I x p t i) (r .calm i l) (λ b.
-                let new = or-rest (atDistance I x p (suc t) i) (within-next I x p t i ∙ a) b in
-                and-rest (above I x p i) (sym (giver-at i l) ∙ first-none (I .n) _ e i l) new);
-          }
-
-      pub found-first : {i : ℕ} → i < I .n → firstBelow i (λ j. bit next j && ltb least (getD ups j 0)) ≡ i → bit next i ≡ true → least < getD ups i 0 → First (I .n) (λ j. atDistance I x p (suc t) j && above I x p j) i
-      found-first l e b a = First-cong giver-at (First-stop _ e (and-intro b (lt-ltb _ _ a)) l)
-
--- Of every market, all owners and all prices that the lists can stand for: `ring` is at distance t, and so on.
-pub record Rounds (n : ℕ) (offers ups : List ℕ) (least start t ring reached : ℕ) : Type 0 where
-  pub ringed : (I : Instance) (x p : ℕ → ℕ) → I .n ≡ n → Searching I x p offers ups least start → Ringed I x p t ring reached
-
-module _ {n : ℕ} {offers ups : List ℕ} {least start : ℕ} where
-  pub rounds-start : Rounds n offers ups least start 0 start start
-  rounds-start = record { ringed = λ I x p en s. ringed-start s }
-
-  module _ {t ring reached : ℕ} (r : Rounds n offers ups least start t ring reached) where
-    -- no ring is left
-    pub rounds-ended : t ≡ n → {giver : ℕ} (takers : ℕ) → giver ≡ n → Answered n offers ups least start giver takers reached
-    rounds-ended e takers q =
+    -- agent i is passed over
+    pub ringed-skip : inNextRing offers ring scratch i ≡ false → Ringed I x p (suc t) (suc i) end lent scratch
+    ringed-skip e =
+        let none = sym next-at ∙ e in
         record {
-          limit = omega arith;
-          searched = λ I x p en s. search-ends (s .some) t (r .ringed I x p en s) (e ∙ sym en) takers (q ∙ sym en);
+          lined = lined-skip none (R .lined);
+          ended = R .ended ∙ ap length (line-skip (I .n) (atDistance I x p) (suc t) i none);
+          calm =
+              λ j h a. R .calm j h (in-cases (atDistance I x p) (suc t) (suc i) j a (in-before (atDistance I x p) (suc t) i j)
+              (λ b q. by-top q (λ r. absurd (clash b (ap (atDistance I x p (suc t)) r ∙ none))) (in-here (atDistance I x p) (suc t) i j b)));
         }
 
-    module _ {next : ℕ} (new : SetOf n next (inNextRing offers ring reached)) where
-      new-in : (I : Instance) → I .n ≡ n → SetOf (I .n) next (inNextRing offers ring reached)
-      new-in I en = rw en new
+    -- agent i takes the next place
+    module _ (few : I .n ≤ maxAgents) (sized : length scratch ≡ scratchSize) (room : end < maxAgents) (e : inNextRing offers ring scratch i ≡ true) where
+      now-here : atDistance I x p (suc t) i ≡ true
+      now-here = sym next-at ∙ e
 
-      -- nobody of the new ring is above the least sum
-      pub rounds-next : firstBelow n (λ i. bit next i && ltb least (getD ups i 0)) ≡ n → Rounds n offers ups least start (t + 1) next (bitOr reached next)
-      rounds-next none =
-          record { ringed = λ I x p en s. rw add-one (ringed-next s t (r .ringed I x p en s) (new-in I en) (rw en none)) }
+      line-on : Lined (I .n) (atDistance I x p) (suc t) (suc i) lent (set (set scratch i (suc t + 1)) (maxAgents + end) i)
+      line-on = lined-take (I .n) (atDistance I x p) now-here (R .ended) (λ s j. at-once I x p (S .some) s (suc t) j) sized few l room (R .lined)
 
-      -- the new ring is empty
-      pub rounds-closed : next ≡ 0 → {giver : ℕ} (takers : ℕ) → giver ≡ n → Answered n offers ups least start giver takers reached
-      rounds-closed e takers q =
+      pub ringed-take : getD ups i 0 ≤ least → Ringed I x p (suc t) (suc i) (end + 1) lent (set (set scratch i (suc t + 1)) (maxAgents + end) i)
+      ringed-take low =
           record {
-            limit = omega arith;
-            searched =
-                λ I x p en s.
-                let b = r .ringed I x p en s in
-                search-closes (s .some) t b (rw e at (next-at s t b (new-in I en))) takers (q ∙ sym en);
+            lined = line-on;
+            ended = longer (I .n) (atDistance I x p) now-here (R .ended);
+            calm =
+                λ j h a. in-cases (atDistance I x p) (suc t) (suc i) j a (λ s b q. R .calm j h (in-before (atDistance I x p) (suc t) i j s b q))
+                (λ b q. by-top q
+                (λ r. rw r (sym (above-at i l) ∙ le-ltb least (getD ups i 0) low))
+                (λ r. R .calm j h (in-here (atDistance I x p) (suc t) i j b r)));
           }
 
-      -- agent i is the first of the new ring above the least sum
-      pub rounds-found : {i : ℕ} → t < n → i < n → firstBelow i (λ j. bit next j && ltb least (getD ups j 0)) ≡ i → bit next i ≡ true → least < getD ups i 0 → Answered n offers ups least start i (bitAnd (getD offers i 0) ring) reached
-      rounds-found {i} room l e b a =
+      -- and is the giver
+      module _ (below : t < I .n) (high : least < getD ups i 0) where
+        found-above : above I x p i ≡ true
+        found-above = sym (above-at i l) ∙ lt-ltb least (getD ups i 0) high
+
+        found-first : First (I .n) (λ j. atDistance I x p (suc t) j && above I x p j) i
+        found-first =
+            record {
+              below = l;
+              passes = and-intro now-here found-above;
+              before = λ j h. by-test (atDistance I x p (suc t) j)
+                  (λ a. and-no-right (atDistance I x p (suc t) j) (R .calm j (omega arith) (in-here (atDistance I x p) (suc t) i j a h)))
+                  (and-no-left (above I x p j));
+            }
+
+        found-ring : ring2b I x p ≡ suc t
+        unfolding ring2b
+        found-ring =
+            first-unique (record {
+              below = omega arith;
+              passes = any-intro _ i l (found-first .passes);
+              before = λ s h. any-none-intro (I .n) _ (λ j b. by-test (atDistance I x p s j)
+                  (λ a. and-no-right (atDistance I x p s j) (R .calm j b (in-before (atDistance I x p) (suc t) i j s h a)))
+                  (and-no-left (above I x p j)));
+            })
+
+        found-giver : giver2b I x p ≡ i
+        unfolding giver2b
+        found-giver = rw found-ring (first-unique found-first)
+
+        pub ringed-found : Searched I x p i (bitAnd (getD offers i 0) ring) lent (set (set scratch i (suc t + 1)) (maxAgents + end) i)
+        unfolding above
+        ringed-found =
+            record {
+              limit = omega arith;
+              due = λ h. is-due I x p (S .some) (suc t) i below l (at-within I x p (suc t) i now-here) (ltb-true _ _ found-above);
+              gives = λ h. sym found-giver;
+              takes = λ h. let e : ring2b I x p - 1 ≡ t = omega (arith, found-ring) in rw (e, found-giver) (set-cong (λ j h. and-swap (supplies I x p i j) (atDistance I x p t j)) taken-at);
+              some = λ h. rw (found-ring, found-giver) line-on;
+              none = λ q. absurd (omega arith);
+              all = λ q. absurd (omega arith);
+            }
+
+  module _ {t from to : ℕ} {lent scratch : List ℕ} (R : Ringed I x p t (I .n) to lent scratch) (begun : from ≡ length (ringsBefore (I .n) (atDistance I x p) t)) where
+    -- the places since the rings before are the ring
+    pub ringed-ring : {ring : ℕ} → SetOf (I .n) ring (standsAt scratch from to) → SetOf (I .n) ring (atDistance I x p t)
+    ringed-ring = set-cong (ring-stands (R .lined) begun (R .ended))
+
+    -- there are none: nobody further is reachable
+    module _ (empty : from ≡ to) (low : t ≤ I .n) where
+      none-on : (s i : ℕ) → t ≤ s → i < I .n → atDistance I x p s i ≡ false
+      none-on = rings-empty I x p (S .some) t (ring-empty (R .lined) begun (R .ended) empty)
+
+      calm-all : (i : ℕ) → i < I .n → reachable I x p i ≡ true → above I x p i ≡ false
+      unfolding reachable
+      calm-all i l a =
+          let r = in-ring I x p (I .n) i a in
+          by-less (r .ring) t
+          (λ h. R .calm i l (in-before (atDistance I x p) t (I .n) i (r .ring) h (r .held)))
+          (λ h. absurd (clash (r .held) (none-on (r .ring) i h l)))
+
+      none-due : due2b I x p ≡ false
+      unfolding reachable above
+      none-due =
+          not-yes (due2b I x p) λ e.
+          let d = due-found I x p (S .some) e in
+          clash (lt-ltb _ _ (d .giverAbove)) (calm-all (giver2b I x p) (d .giver) (within-more I x p (S .some) (d .distance) _ (d .inRing)))
+
+      pub ringed-ended : {giver : ℕ} (takers : ℕ) → giver ≡ I .n → Searched I x p giver takers lent scratch
+      ringed-ended takers e =
           record {
             limit = omega arith;
-            searched =
-                λ I x p en s.
-                let o = r .ringed I x p en s in
-                let h : i < I .n = rw en l in
-                search-finds (s .some) t o (rw en room) (found-first s t o (new-in I en) h e b a) (taken-at s t o i h);
+            due = λ h. absurd (omega arith);
+            gives = λ h. absurd (omega arith);
+            takes = λ h. absurd (omega arith);
+            some = λ h. absurd (omega arith);
+            none = λ q. none-due;
+            all = λ q. lined-all (I .n) (atDistance I x p) t none-on (I .n) (I .n) (le-refl _) low (R .lined);
           }

@@ -1,3 +1,4 @@
 pub mod Words
 pub mod Offers
+pub mod Line
 pub mod Search

@@ -1,41 +1,53 @@
 -- The search of 2b over offers.
-use Prim.Native.Nat.{ℕ, _-_, _≤_, _<_}
+use Prim.Native.Nat.{ℕ, suc, _-_, _≤_, _<_}
 use mathlib.Core.Bool.{Bool, true, false, not, _&&_}
 use mathlib.Core.List.{List}
 use mathlib.Core.Path.{_≡_}
 use lib.Bits.{bitAnd}
 use lib.Dec.{eqb}
-use lib.ListN.{getD}
-use Rattle.finite.specs.Bits.{bit, SetOf}
+use lib.ListN.{length, getD}
+use Rattle.finite.specs.Bits.{SetOf}
+use Rattle.model.specs.Limits.{maxAgents, scratchSize}
 use Rattle.model.specs.Instance.{Instance}
-use Rattle.model.specs.Prices.{priceUpToOne}
-use Rattle.model.specs.Step2b.{leastSum, supplies, ofLeastSum, atDistance, reachable, ring2b, due2b, giver2b}
+use Rattle.model.specs.Prices.{priceSum, priceUpToOne}
+use Rattle.model.specs.Step2b.{leastSum, supplies, atDistance, ring2b, due2b, giver2b}
+use Rattle.rings.specs.Line.{Lined, isReached}
+
+-- safety: an entry for each of n agents, and the scratch
+pub record Lists (n : ℕ) (offers sums ups scratch : List ℕ) : Type 0 where
+  pub agents : n ≤ maxAgents
+  pub offersFit : n ≤ length offers
+  pub sumsFit : n ≤ length sums
+  pub upsFit : n ≤ length ups
+  pub scratchSized : length scratch ≡ scratchSize
 
 -- agent i is not reached and has an offer for somebody of the ring
-unfoldable pub inNextRing : List ℕ → ℕ → ℕ → ℕ → Bool
-inNextRing offers ring reached i = not (bit reached i) && not (eqb (bitAnd (getD offers i 0) ring) 0)
+unfoldable pub inNextRing : List ℕ → ℕ → List ℕ → ℕ → Bool
+inNextRing offers ring scratch i = not (isReached scratch i) && not (eqb (bitAnd (getD offers i 0) ring) 0)
 
 -- What the search starts from, in the market I with owners x and prices p.
-pub record Searching (I : Instance) (x p : ℕ → ℕ) (offers ups : List ℕ) (least start : ℕ) : Type 0 where
+pub record Searching (I : Instance) (x p : ℕ → ℕ) (offers sums ups : List ℕ) (least : ℕ) : Type 0 where
   pub some : 0 < I .n
   pub offered : (i : ℕ) → i < I .n → SetOf (I .n) (getD offers i 0) (supplies I x p i)
+  pub sum : (i : ℕ) → i < I .n → getD sums i 0 ≡ priceSum (I .m) x p i
   pub up : (i : ℕ) → i < I .n → getD ups i 0 ≡ priceUpToOne (I .m) x p i
   pub leastIs : least ≡ leastSum I x p
-  pub startIs : SetOf (I .n) start (ofLeastSum I x p)
 
--- What it found: the giver and those of the ring before who want a chore of the giver, or nobody and everyone reachable.
-pub record Searched (I : Instance) (x p : ℕ → ℕ) (giver takers reached : ℕ) : Type 0 where
+-- What it found: the giver and those of the ring before who want a chore of the giver, or nobody. In the scratch stands everyone reached, up to
+-- the giver, or else up to the last of all rings: no distance is above n - 1.
+pub record Searched (I : Instance) (x p : ℕ → ℕ) (giver takers : ℕ) (lent scratch : List ℕ) : Type 0 where
   pub limit : giver ≤ I .n
   pub due : giver < I .n → due2b I x p ≡ true
   pub gives : giver < I .n → giver ≡ giver2b I x p
   pub takes : giver < I .n → SetOf (I .n) takers (λ j. atDistance I x p (ring2b I x p - 1) j && supplies I x p (giver2b I x p) j)
+  pub some : giver < I .n → Lined (I .n) (atDistance I x p) (ring2b I x p) (suc (giver2b I x p)) lent scratch
   pub none : giver ≡ I .n → due2b I x p ≡ false
-  pub all : giver ≡ I .n → SetOf (I .n) reached (reachable I x p)
+  pub all : giver ≡ I .n → Lined (I .n) (atDistance I x p) (I .n) 0 lent scratch
 
 -- The search's answer: of every market, all owners and all prices that the lists can stand for.
-pub record Answered (n : ℕ) (offers ups : List ℕ) (least start giver takers reached : ℕ) : Type 0 where
+pub record Answered (n : ℕ) (offers sums ups : List ℕ) (least giver takers : ℕ) (lent scratch : List ℕ) : Type 0 where
   pub limit : giver ≤ n
   pub searched :
       (I : Instance) (x p : ℕ → ℕ)
-      → I .n ≡ n → Searching I x p offers ups least start
-      → Searched I x p giver takers reached
+      → I .n ≡ n → Searching I x p offers sums ups least
+      → Searched I x p giver takers lent scratch

@@ -1,71 +1,52 @@
-// The rings, as the bits of a word.
-ghost use Prim.Native.Nat.{_≤_};
+// The search of step 2b, ring by ring, in the scratch.
 ghost use lib.ListN.{length};
-ghost use Rattle.finite.specs.Bits.{SetOf};
-ghost use Rattle.model.specs.Limits.{maxAgents};
-ghost use Rattle.rings.specs.Search.{inNextRing, Answered};
-use market::words::has;
-use market::words::with;
+ghost use Rattle.rings.specs.Search.{Lists, Answered};
+use crate::line;
 
-// The agents, not reached so far, who have an offer for somebody of the ring.
-fn next_ring(n: usize, offers: &[u32], ring: u32, reached: u32) -> u32
-    requires { ⌜ (n ≤ maxAgents) × (n ≤ length (now offers)) ⌝ }
-    ensures { λ r. ⌜ SetOf n r (inNextRing (now (offers .entry)) ring reached) ⌝ }
-{
-    let mut next = 0u32;
-    let mut i = 0;
-    while i < n {
-        let takers = offers[i] & ring;
-        if !has(reached, i) {
-            if takers != 0 {
-                next = with(next, i);
-            }
-        }
-        i += 1;
-    }
-    next
-}
-
-// The giver (n for nobody), those of the ring before who want a chore of the giver, and everyone reached.
+// The giver (n for nobody), and those of the ring before who want a chore of the giver.
 pub struct Found {
     pub giver: usize,
     pub takers: u32,
-    pub reached: u32,
 }
 
-// The search leaves all rings as soon as one holds somebody above the least sum.
-pub fn search(n: usize, offers: &[u32], ups: &[u32], least: u32, start: u32) -> Found
-    requires { ⌜ (n ≤ maxAgents) × (n ≤ length (now offers)) × (n ≤ length (now ups)) ⌝ }
-    ensures { λ r. ⌜ Answered n (now (offers .entry)) (now (ups .entry)) least start (r .giver) (r .takers) (r .reached) ⌝ }
+// From one distance t to the next: whoever is not reached and has an offer for the ring at t takes a place in line. The search leaves all rings
+// as soon as somebody above the least sum does.
+pub fn search(
+    n: usize,
+    offers: &[u32],
+    sums: &[u32],
+    ups: &[u32],
+    least: u32,
+    scratch: &mut [u8],
+) -> Found
+    requires { ⌜ Lists n (now offers) (now sums) (now ups) (now scratch) ⌝ }
+    ensures { λ r. ⌜ Answered n (now (offers .entry)) (now (sums .entry)) (now (ups .entry)) least (r .giver) (r .takers) (now (scratch .entry)) (now (scratch .exit)) ⌝ }
 {
     let mut giver = n;
     let mut takers = 0u32;
-    let mut ring = start;
-    let mut reached = start;
-    let mut t = 0usize;
-    'rings: while t < n {
-        let next = next_ring(n, offers, ring, reached);
+    let mut from = 0;
+    let mut to = line::start(n, sums, least, scratch);
+    let mut t = 0u8;
+    'rings: while from < to {
+        let ring = line::ring(n, scratch, from, to);
+        let mut end = to;
         let mut i = 0;
         while i < n {
-            if has(next, i) {
+            let wanting = offers[i] & ring;
+            if scratch[i] == 0 && wanting != 0 {
+                line::take_place(scratch, end, i, t + 2);
+                end += 1;
                 if ups[i] > least {
                     giver = i;
-                    takers = offers[i] & ring;
+                    takers = wanting;
                     break 'rings;
                 }
             }
             i += 1;
         }
-        if next == 0 {
-            break 'rings;
-        }
-        reached = reached | next;
-        ring = next;
+        from = to;
+        to = end;
         t += 1;
     }
-    Found {
-        giver,
-        takers,
-        reached,
-    }
+    Found { giver, takers }
 }

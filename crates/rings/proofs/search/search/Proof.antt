@@ -1,61 +1,100 @@
--- `rings::search::search` meets its contract. Before each ring: `ring` is at distance t, `reached` is everyone within it, and nobody reached
--- is above the least sum. In a ring: nobody before i is above it.
-use Prim.Native.Nat.{_-_, _≤_}
-use mathlib.Core.Bool.{_&&_}
-use mathlib.Core.Path.{_≡_, refl, sym, _∙_}
+-- `rings::search::search` meets its contract. Before each ring: the ring at distance t is in line, and nobody in line is above the least sum. In a
+-- ring: so are those of the next one who come before agent i.
+use Prim.Native.Nat.{_-_, _<_}
+use mathlib.Core.Path.{_≡_, refl}
 use mathlib.Core.Logic.{⊎-elim}
 use native.Mathlib.Omega.{arith}
-use lib.Dec.{ltb}
-use lib.ListN.{getD}
 use borrow.Author.Needs.{needs}
-use borrow.Author.Tests.{le-ltb}
-use Rattle.finite.specs.Bits.{bit}
-use Rattle.finite.specs.Search.{firstBelow}
-use Rattle.finite.proofs.Tests.{and-no-left, and-no-right}
-use Rattle.finite.proofs.Search.{first-zero, first-miss}
-use Rattle.rings.proofs.Ringed.{Rounds, rounds-start, rounds-next, rounds-found, rounds-closed, rounds-ended}
+use Rattle.rings.proofs.Rounds.{AtRing, AtAgent, ring-start, ring-below, ring-next, ring-last, agent-first, agent-reached, agent-unwanted, agent-room, agent-take, agent-found}
+use Rattle.rings.proofs.Started.{filled-most}
 use Rattle.rings.proofs.search.search.Statement.{statement}
 use Rattle.rings.proofs.search.search.Tie as tie
 
 abbrev Inv-loop : tie.InvT-loop
-Inv-loop n offers ups least start giver₀ takers₀ ring reached t next i₀ giver takers i =
-    (i ≤ n) × ((giver ≡ n) × (firstBelow i (λ j. bit next j && ltb least (getD ups j 0)) ≡ i))
+Inv-loop n offers sums ups least scratch₀ giver₀ takers₀ from to t ring end₀ i₀ scratch giver takers end i =
+    (giver ≡ n) × AtAgent n offers sums ups least t from to i end scratch₀ scratch
 
 abbrev μ-loop : tie.MeasureT-loop
-μ-loop n offers ups least start giver₀ takers₀ ring reached t next i₀ giver takers i =
+μ-loop n offers sums ups least scratch₀ giver₀ takers₀ from to t ring end₀ i₀ scratch giver takers end i =
     n - i
 
 abbrev Inv-rings : tie.InvT-rings
-Inv-rings n offers ups least start giver₀ takers₀ ring₀ reached₀ t₀ giver takers ring reached t =
-    (t ≤ n) × ((giver ≡ n) × Rounds n offers ups least start t ring reached)
+Inv-rings n offers sums ups least scratch₀ giver₀ takers₀ from₀ to₀ t₀ scratch giver takers from to t =
+    (giver ≡ n) × AtRing n offers sums ups least t from to to₀ scratch₀ scratch
 
 abbrev μ-rings : tie.MeasureT-rings
-μ-rings n offers ups least start giver₀ takers₀ ring₀ reached₀ t₀ giver takers ring reached t =
-    n - t
+μ-rings n offers sums ups least scratch₀ giver₀ takers₀ from₀ to₀ t₀ scratch giver takers from to t =
+    n - from
+
+-- back from an agent to its ring, from there to the distance, to the start of the line, and to the start
+abbrev ring-at : tie.At-loop Inv-loop μ-loop Inv-rings μ-rings → tie.After-ring Inv-loop μ-loop Inv-rings μ-rings
+ring-at c = c .before
+
+abbrev rings-at : tie.After-ring Inv-loop μ-loop Inv-rings μ-rings → tie.At-rings Inv-loop μ-loop Inv-rings μ-rings
+rings-at c = c .before .before .before
+
+abbrev line-at : tie.At-rings Inv-loop μ-loop Inv-rings μ-rings → tie.After-start Inv-loop μ-loop Inv-rings μ-rings
+line-at c = c .before .before .before
+
+abbrev begin : tie.After-start Inv-loop μ-loop Inv-rings μ-rings → tie.Start Inv-loop μ-loop Inv-rings μ-rings
+begin c = c .before .before .before .before .before .before
+
+-- the agent is one of n, and the ring at hand is not empty
+below : (c : tie.In-loop Inv-loop μ-loop Inv-rings μ-rings) → c .before .loop .i < begin (line-at (rings-at (ring-at (c .before)))) .args .n
+below c = omega arith
+
+nonempty : (c : tie.In-rings Inv-loop μ-loop Inv-rings μ-rings) → c .before .rings .from < c .before .rings .to
+nonempty c = omega arith
+
+start-requires : tie.Need-start-requires Inv-loop μ-loop Inv-rings μ-rings
+start-requires c κs =
+    let pre = c .before .before .before .before .before .pre in
+    (pre .agents, pre .sumsFit, pre .scratchSized)
 
 rings-holds : tie.Need-rings-holds Inv-loop μ-loop Inv-rings μ-rings
-rings-holds c = (omega arith, (refl, rounds-start))
+rings-holds c = (refl, ring-start (c .before .before .start .ensures .filled))
 
-next-ring-requires : tie.Need-next-ring-requires Inv-loop μ-loop Inv-rings μ-rings
-next-ring-requires c κs = search needs
+ring-requires : tie.Need-ring-requires Inv-loop μ-loop Inv-rings μ-rings
+ring-requires c κs =
+    let rings = c .before .before in
+    let pre = begin (line-at rings) .pre in
+    let filled = rings .rings .inv .1 .filled in
+    (pre .agents, omega arith, omega (arith, filled .size, filled-most filled, pre .agents), filled .known)
 
 loop-holds : tie.Need-loop-holds Inv-loop μ-loop Inv-rings μ-rings
-loop-holds c = (omega arith, (c .before .before .rings .inv .1 .0, first-zero _))
+loop-holds c = let rings = c .before .before .before .rings in (rings .inv .0, agent-first (rings .inv .1))
 
-has-requires : tie.Need-has-requires Inv-loop μ-loop Inv-rings μ-rings
-has-requires c κs = search needs
+mul-wanting : tie.Need-mul-wanting Inv-loop μ-loop Inv-rings μ-rings
+mul-wanting c = search needs
 
-mul-if2 : tie.Need-mul-if2 Inv-loop μ-loop Inv-rings μ-rings
-mul-if2 c = search needs
+shared-slice-read-wanting : tie.Need-shared-slice-read-wanting Inv-loop μ-loop Inv-rings μ-rings
+shared-slice-read-wanting c = search needs
 
-shared-slice-read-if2 : tie.Need-shared-slice-read-if2 Inv-loop μ-loop Inv-rings μ-rings
-shared-slice-read-if2 c = search needs
+slice-read-if1 : tie.Need-slice-read-if1 Inv-loop μ-loop Inv-rings μ-rings
+slice-read-if1 c = search needs
 
-mul-takers : tie.Need-mul-takers Inv-loop μ-loop Inv-rings μ-rings
-mul-takers c = search needs
+add-take-place : tie.Need-add-take-place Inv-loop μ-loop Inv-rings μ-rings
+add-take-place c =
+    let rings = rings-at (ring-at (c .before .before .before .before .before .before)) in
+    omega (arith, ring-below (rings .rings .inv .1) (omega arith), begin (line-at rings) .pre .agents)
 
-shared-slice-read-takers : tie.Need-shared-slice-read-takers Inv-loop μ-loop Inv-rings μ-rings
-shared-slice-read-takers c = search needs
+take-place-requires : tie.Need-take-place-requires Inv-loop μ-loop Inv-rings μ-rings
+take-place-requires c κs =
+    let at = c .before .before .before .before .before .before in
+    let start = begin (line-at (rings-at (ring-at at))) in
+    let l : at .loop .i < start .args .n = omega arith in
+    (at .loop .inv .1 .filled .size, agent-room (ring-at at .ring .ensures) l (at .loop .inv .1) (start .pre .agents) (c .before .before .if1 .taken) (c .before .if2 .taken), omega (arith, start .pre .agents))
+
+add-end : tie.Need-add-end Inv-loop μ-loop Inv-rings μ-rings
+add-end c =
+    let at = c .before .before .before .before .before .before .before .before .before in
+    omega (arith, filled-most (at .loop .inv .1 .filled), begin (line-at (rings-at (ring-at at))) .pre .agents)
+
+mul-if3 : tie.Need-mul-if3 Inv-loop μ-loop Inv-rings μ-rings
+mul-if3 c = search needs
+
+shared-slice-read-if3 : tie.Need-shared-slice-read-if3 Inv-loop μ-loop Inv-rings μ-rings
+shared-slice-read-if3 c = search needs
 
 add-i : tie.Need-add-i Inv-loop μ-loop Inv-rings μ-rings
 add-i c = search needs
@@ -65,47 +104,57 @@ loop-less c = search needs
 
 loop-again : tie.Need-loop-again Inv-loop μ-loop Inv-rings μ-rings
 loop-again c =
-    let inv = c .before .before .before .loop .inv .1 in
-    let next = c .before .before .before .before .next-ring .result in
-    let has = c .before .has .ensures in (
-      omega arith,
-      (
-        inv .0,
-        first-miss _ _ (inv .1)
-            (⊎-elim (λ w. and-no-right (bit next (c .before .before .before .loop .i)) (le-ltb _ _ (w .2 .left))) (λ w. and-no-left _ (sym has ∙ w .left)) (c .if1 .came)),
-      ),
+    let at = c .before .before .before .before in
+    let start = begin (line-at (rings-at (ring-at at))) in
+    let l : at .loop .i < start .args .n = omega arith in
+    let ring = ring-at at .ring .ensures in
+    let inv = at .loop .inv .1 in (
+      at .loop .inv .0,
+      ⊎-elim
+          (λ w. rw (w .8, w .9, w .3 .ensures) (agent-take ring l inv (start .pre .agents) (w .0 .taken) (w .1 .taken) (w .7 .left)))
+          (λ w. rw (w .1, w .2) (⊎-elim (λ v. agent-unwanted ring l inv (v .1 .left)) (λ v. agent-reached ring l inv (v .left)) (w .0 .came)))
+          (c .if1 .came),
     )
 
 add-t : tie.Need-add-t Inv-loop μ-loop Inv-rings μ-rings
-add-t c = search needs
+add-t c =
+    let rings = c .before .before .before .before .before in
+    omega (arith, ring-below (rings .rings .inv .1) (omega arith), begin (line-at rings) .pre .agents)
 
 rings-less : tie.Need-rings-less Inv-loop μ-loop Inv-rings μ-rings
-rings-less c = search needs
+rings-less c =
+    let rings = c .before .before .before .before .before .rings in
+    omega (arith, filled-most (rings .inv .1 .filled))
 
 rings-again : tie.Need-rings-again Inv-loop μ-loop Inv-rings μ-rings
 rings-again c =
-    let loop = c .before .before .loop in
-    let rings = c .before .before .before .before .before .rings in
-    let all : loop .i ≡ c .before .before .before .before .before .before .before .before .args .n = omega arith in
-    (omega arith, (loop .inv .1 .0, rounds-next (rings .inv .1 .1) (c .before .before .before .next-ring .ensures) (rw all at (loop .inv .1 .1))))
+    let loop = c .before .loop in
+    let rings = c .before .before .before .before .before in
+    let all : loop .i ≡ begin (line-at rings) .args .n = omega (arith, loop .inv .1 .limit) in
+    (loop .inv .0, ring-next (rings .rings .inv .1) (omega arith) (rw all at (loop .inv .1)))
+
+same-length : tie.Need-same-length Inv-loop μ-loop Inv-rings μ-rings
+same-length c = search needs
 
 returns : tie.Need-returns Inv-loop μ-loop Inv-rings μ-rings
 returns c =
-    let rings = c .before .rings in
-    rounds-ended (rings .inv .1 .1) (omega arith) (rings .takers) (rings .inv .1 .0)
+    let rings = c .before in
+    ring-last (rings .rings .inv .1) (omega arith) (line-at rings .start .ensures) (rings .rings .takers) (rings .rings .inv .0)
+
+same-length-2 : tie.Need-same-length-2 Inv-loop μ-loop Inv-rings μ-rings
+same-length-2 c = search needs
 
 returns-2 : tie.Need-returns-2 Inv-loop μ-loop Inv-rings μ-rings
 returns-2 c =
-    let loop = c .before .before .before .before .before .before .loop in
-    let rings = c .before .before .before .before .before .before .before .before .before .rings in
-    let hit = sym (c .before .before .before .before .has .ensures) ∙ c .before .before .before .if1 .taken in
-    rounds-found (rings .inv .1 .1) (c .before .before .before .before .before .before .before .next-ring .ensures) (omega arith) (omega arith) (loop .inv .1 .1) hit (c .before .if2 .taken)
-
-returns-3 : tie.Need-returns-3 Inv-loop μ-loop Inv-rings μ-rings
-returns-3 c =
-    let loop = c .before .before .loop in
-    let rings = c .before .before .before .before .before .rings in
-    rounds-closed (rings .inv .1 .1) (c .before .before .before .next-ring .ensures) (c .if3 .taken) (loop .takers) (loop .inv .1 .0)
+    let placed = c .before .before .before .before in
+    let turn = placed .before .before .before .before .before .before in
+    let ring = ring-at (turn .before) in
+    let rings = rings-at ring in
+    let inv = rings .rings .inv .1 in
+    let wanted = placed .before .before in
+    rw (placed .take-place .ensures)
+    (agent-found (ring .ring .ensures) (below turn) (turn .before .loop .inv .1) (begin (line-at rings) .pre .agents) (wanted .before .if1 .taken) (wanted .if2 .taken)
+    (inv .rounds _ (line-at rings .start .ensures)) (ring-below inv (nonempty (ring .before .before))) (c .if3 .taken))
 
 pub search-spec : {M : Type 1} → statement M
 search-spec =
@@ -115,20 +164,25 @@ search-spec =
     μ-loop
     Inv-rings
     μ-rings
+    start-requires
     rings-holds
-    next-ring-requires
+    ring-requires
     loop-holds
-    has-requires
-    mul-if2
-    shared-slice-read-if2
-    mul-takers
-    shared-slice-read-takers
+    mul-wanting
+    shared-slice-read-wanting
+    slice-read-if1
+    add-take-place
+    take-place-requires
+    add-end
+    mul-if3
+    shared-slice-read-if3
     add-i
     loop-less
     loop-again
     add-t
     rings-less
     rings-again
+    same-length
     returns
-    returns-2
-    returns-3)
+    same-length-2
+    returns-2)
