@@ -18,6 +18,11 @@
  * An owner list has one byte per chore, the number of the agent who does it. A
  * price list has four bytes per chore.
  *
+ * Scratch is bytes that a share-out works in. While it runs they hold a distance
+ * and a place in line for each agent, and nothing else; what they held before makes
+ * no difference. All of them end as zeros, however many there are. A refused call
+ * leaves them as they were.
+ *
  * What a caller owes: every list passes as a pointer and its length in bytes,
  * with that many bytes behind the pointer. A list of length 0 may be NULL, and
  * no other pointer may. What a call writes to may overlap nothing else that it
@@ -46,10 +51,10 @@ extern "C" {
 #endif
 
 /* The release that this header is of. */
-#define SHARES_VERSION "6.2.9"
+#define SHARES_VERSION "6.2.10"
 #define SHARES_VERSION_MAJOR 6
 #define SHARES_VERSION_MINOR 2
-#define SHARES_VERSION_PATCH 9
+#define SHARES_VERSION_PATCH 10
 
 /* Limits: 1 to 32 agents, 0 to 4,000 chores, 1 <= a < b <= 1,000. */
 #define SHARES_MAX_AGENTS 32
@@ -66,7 +71,7 @@ extern "C" {
 #define SHARES_MAX_PRICE 1000000
 #define SHARES_PRICE_BYTES 4
 /* The least scratch, in bytes. */
-#define SHARES_SCRATCH 1024
+#define SHARES_SCRATCH 64
 /* The bytes of a move in a record. */
 #define SHARES_MOVE_BYTES 6
 /* A book has 1 to 16 sheets and 1 to 65,535 bytes. */
@@ -115,7 +120,7 @@ extern "C" {
 /* Shares out a sheet.
  *
  * Lent: owners, at least m bytes; prices, at least 4 * m bytes; scratch, at
- * least 1,024 bytes. prices_len / 4 is the number of entries of the price list.
+ * least 64 bytes. prices_len / 4 is the number of entries of the price list.
  * Returns 0: the first m owners and the first m prices are written and the rest
  * of both lists is kept; the whole scratch is zeros; *moves is the number of
  * chores handed over, *cuts the number of price cuts. *moves is at most
@@ -200,7 +205,7 @@ uint8_t shares_find_sheet(const uint8_t *book, size_t book_len,
  * long lists. A refused sheet takes no entries.
  *
  * Lent: owners, at least 64,000 bytes; prices, at least 256,000 bytes; scratch, at
- * least 1,024 bytes.
+ * least 64 bytes.
  * Returns 0: entry i of each list of results tells of sheet i + 1. refusals has 0
  * or the sheet's number 1 to 5. Beside 0 are the sheet's moves, its cuts and its
  * first entry in the long lists, counted from 0; beside a number these entries
