@@ -1,8 +1,9 @@
 //! Algorithm 1: the opening, steps 2a and 2b, and the cut of step 3.
 
 use crate::costs::Costs;
+use crate::line::Line;
 use crate::pricing::{best_chores, holdings, least_sum, Holding};
-use crate::search::{search, Found, Move};
+use crate::search::{search, Move};
 use std::cmp::Reverse;
 
 /// The step that makes a move, by its number in a record.
@@ -21,7 +22,7 @@ pub struct Made {
 }
 
 /// The state of a run. Agents and chores count from 0.
-#[derive(Debug, Clone)]
+#[derive(Debug)]
 pub struct Run<'a> {
     costs: &'a Costs,
     pub owner: Vec<usize>,
@@ -29,12 +30,18 @@ pub struct Run<'a> {
     entitled: Vec<bool>,
     /// The members of each cut group; round r's cut makes the r-th.
     groups: Vec<Vec<usize>>,
+    /// Whoever the last search reached.
+    line: Line<'a>,
     pub moves: u64,
 }
 
 impl<'a> Run<'a> {
     /// Runs every round, until the stop in step 2b, and tells of every move.
-    pub fn to_the_end(costs: &'a Costs, tell: &mut impl FnMut(Made)) -> Self {
+    pub fn to_the_end(
+        costs: &'a Costs,
+        scratch: &'a mut [u8],
+        tell: &mut impl FnMut(Made),
+    ) -> Self {
         let (owner, price) = opening(costs);
         let mut run = Run {
             costs,
@@ -42,15 +49,16 @@ impl<'a> Run<'a> {
             price,
             entitled: vec![false; costs.chores],
             groups: Vec::new(),
+            line: Line::new(scratch),
             moves: 0,
         };
         loop {
             run.step_2a(tell);
-            let reachable = run.step_2b(tell);
+            run.step_2b(tell);
             if run.is_price_envy_free_up_to_one() {
                 return run;
             }
-            run.step_3(&reachable);
+            run.step_3();
         }
     }
 
@@ -96,17 +104,14 @@ impl<'a> Run<'a> {
             .expect("step 2a lacks its chore: all that the giver holds are entitled")
     }
 
-    /// Moves until no giver is reachable; hands back who is reachable then.
-    fn step_2b(&mut self, tell: &mut impl FnMut(Made)) -> Vec<bool> {
+    /// Moves until no giver is reachable; whoever is reachable then is in line.
+    fn step_2b(&mut self, tell: &mut impl FnMut(Made)) {
         // Prices stay as they are during a step, so best chores do too.
         let best: Vec<Vec<usize>> = (0..self.costs.agents)
             .map(|agent| best_chores(self.costs, &self.price, agent))
             .collect();
-        loop {
-            match search(&best, &self.owner, &self.holdings()) {
-                Found::Move(due) => tell(self.make(due, Step::TwoB)),
-                Found::Reachable(reachable) => return reachable,
-            }
+        while let Some(due) = search(&best, &self.owner, &self.holdings(), &mut self.line) {
+            tell(self.make(due, Step::TwoB));
         }
     }
 
@@ -118,9 +123,9 @@ impl<'a> Run<'a> {
     }
 
     /// The reachable agents become a group; what they hold gets cheaper.
-    fn step_3(&mut self, reachable: &[bool]) {
+    fn step_3(&mut self) {
         for chore in 0..self.costs.chores {
-            if reachable[self.owner[chore]] {
+            if self.line.has(self.owner[chore]) {
                 self.entitled[chore] = true;
                 let scaled = self.price[chore] * self.costs.easy;
                 assert!(
@@ -130,7 +135,7 @@ impl<'a> Run<'a> {
                 self.price[chore] = scaled / self.costs.difficult;
             }
         }
-        let members = (0..self.costs.agents).filter(|&agent| reachable[agent]);
+        let members = (0..self.costs.agents).filter(|&agent| self.line.has(agent));
         self.groups.push(members.collect());
     }
 

@@ -2,7 +2,7 @@
 
 use crate::limits::{BOOK_ENTRIES, MAX_BOOK_BYTES, MAX_SHEETS, MIN_SCRATCH};
 use crate::refusal;
-use crate::share_out::{allocate_by, work, ShareOut, Worked};
+use crate::share_out::{allocate_by, work, ShareOut, Way};
 use crate::sheet::Sheet;
 
 pub const ENTRY_BYTES: usize = 4;
@@ -90,7 +90,7 @@ pub fn allocate_book(
 
 /// The share-out with either way to work a sheet.
 pub fn allocate_book_by(
-    work: fn(&Sheet) -> Worked,
+    work: Way,
     book: &[u8],
     owners: &mut [u8],
     prices: &mut [u32],

@@ -31,8 +31,9 @@ struct Plain {
     moves: u64,
 }
 
-/// Runs every round, until the stop in step 2b.
-pub fn work(sheet: &Sheet) -> Worked {
+/// Runs every round, until the stop in step 2b. The distances have a list of
+/// their own, so the scratch is left alone.
+pub fn work(sheet: &Sheet, _: &mut [u8]) -> Worked {
     let mut plain = Plain::open(sheet);
     loop {
         plain.step_2a();

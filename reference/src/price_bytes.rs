@@ -3,7 +3,7 @@
 use crate::book::{allocate_book_by, chores_of, sheets_of, BookShareOut};
 use crate::checks::{check_prices, PriceVerdict};
 use crate::record::{self, Recorded};
-use crate::share_out::{allocate_by, ShareOut, Worked};
+use crate::share_out::{allocate_by, ShareOut, Way};
 use crate::sheet::Sheet;
 
 pub const PRICE_BYTES: usize = 4;
@@ -23,7 +23,7 @@ pub fn write(prices: &[u32], bytes: &mut [u8]) {
 
 /// The share-out of a sheet; a price list has as many entries as whole ones.
 pub fn allocate(
-    work: fn(&Sheet) -> Worked,
+    work: Way,
     sheet: &[u8],
     owners: &mut [u8],
     prices: &mut [u8],
@@ -37,7 +37,7 @@ pub fn allocate(
 
 /// The share-out with a record, with its prices likewise.
 pub fn allocate_recorded(
-    work: impl FnOnce(&Sheet) -> Recorded,
+    work: impl FnOnce(&Sheet, &mut [u8]) -> Recorded,
     sheet: &[u8],
     owners: &mut [u8],
     prices: &mut [u8],
@@ -53,7 +53,7 @@ pub fn allocate_recorded(
 /// The share-out of a book, with its prices likewise. Only as many entries as
 /// the sheets take are written.
 pub fn allocate_book(
-    work: fn(&Sheet) -> Worked,
+    work: Way,
     book: &[u8],
     owners: &mut [u8],
     prices: &mut [u8],

@@ -15,9 +15,9 @@ pub struct Recorded {
 }
 
 /// Works an accepted sheet and writes down every move.
-pub fn work(sheet: &Sheet) -> Recorded {
+pub fn work(sheet: &Sheet, scratch: &mut [u8]) -> Recorded {
     let mut record = Vec::new();
-    let worked = work_telling(sheet, &mut |made| record.extend(bytes(made)));
+    let worked = work_telling(sheet, scratch, &mut |made| record.extend(bytes(made)));
     Recorded { worked, record }
 }
 
@@ -49,7 +49,7 @@ pub fn allocate(
 
 /// The share-out with any way to work a sheet.
 pub fn allocate_by(
-    work: impl FnOnce(&Sheet) -> Recorded,
+    work: impl FnOnce(&Sheet, &mut [u8]) -> Recorded,
     sheet: &[u8],
     owners: &mut [u8],
     prices: &mut [u32],
@@ -60,7 +60,8 @@ pub fn allocate_by(
         Ok(sheet) => sheet,
         Err(number) => return ShareOut::Refused(number),
     };
-    let recorded = work(&sheet);
+    // In a copy of the scratch: the moves may not fit, and then it is kept.
+    let recorded = work(&sheet, &mut scratch.to_vec());
     let Some(start) = record.get_mut(..recorded.record.len()) else {
         return ShareOut::Refused(refusal::RECORD);
     };

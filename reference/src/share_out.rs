@@ -21,15 +21,18 @@ pub struct Worked {
     pub cuts: u8,
 }
 
+/// A way to work an accepted sheet. It may leave anything in the scratch.
+pub type Way = fn(&Sheet, &mut [u8]) -> Worked;
+
 /// Works an accepted sheet, near the text of the scope document.
-pub fn work(sheet: &Sheet) -> Worked {
-    work_telling(sheet, &mut |_| ())
+pub fn work(sheet: &Sheet, scratch: &mut [u8]) -> Worked {
+    work_telling(sheet, scratch, &mut |_| ())
 }
 
 /// The same, with every move told as it is made.
-pub fn work_telling(sheet: &Sheet, tell: &mut impl FnMut(Made)) -> Worked {
+pub fn work_telling(sheet: &Sheet, scratch: &mut [u8], tell: &mut impl FnMut(Made)) -> Worked {
     let costs = Costs::as_read(sheet);
-    let run = Run::to_the_end(&costs, tell);
+    let run = Run::to_the_end(&costs, scratch, tell);
     let price = |&price: &u64| u32::try_from(price).expect("a price has 32 bits");
     Worked {
         owners: owner_bytes(&run.owner),
@@ -52,14 +55,14 @@ pub fn allocate(
 
 /// The share-out with either way to work a sheet.
 pub fn allocate_by(
-    work: fn(&Sheet) -> Worked,
+    work: Way,
     sheet: &[u8],
     owners: &mut [u8],
     prices: &mut [u32],
     scratch: &mut [u8],
 ) -> ShareOut {
     match accepted(sheet, owners, prices, scratch) {
-        Ok(sheet) => hand_over(&work(&sheet), owners, prices, scratch),
+        Ok(sheet) => hand_over(&work(&sheet, scratch), owners, prices, scratch),
         Err(number) => ShareOut::Refused(number),
     }
 }
@@ -79,7 +82,7 @@ pub fn accepted<'a>(
     Ok(sheet)
 }
 
-/// Writes the result to the start of the lent lists.
+/// Writes the result to the start of the lent lists, and clears the scratch.
 pub fn hand_over(
     worked: &Worked,
     owners: &mut [u8],
@@ -89,7 +92,6 @@ pub fn hand_over(
     let chores = worked.owners.len();
     owners[..chores].copy_from_slice(&worked.owners);
     prices[..chores].copy_from_slice(&worked.prices);
-    // Neither way needs scratch; its end state is promised all the same.
     scratch.fill(0);
     ShareOut::Shared {
         moves: worked.moves,

@@ -6,8 +6,10 @@ mod common;
 use common::Random;
 use reference::algorithm::{Made, Run, Step};
 use reference::costs::Costs;
+use reference::limits::MIN_SCRATCH;
+use reference::line::Line;
 use reference::pricing::holdings;
-use reference::search::{search, Found, Move};
+use reference::search::{search, Move};
 use reference::sheet::Sheet;
 use std::cmp::Reverse;
 use std::collections::BTreeSet;
@@ -120,12 +122,14 @@ impl<'a> Slow<'a> {
     }
 
     fn step_2b(&mut self) -> Vec<bool> {
+        let mut scratch = [0; MIN_SCRATCH];
+        let mut line = Line::new(&mut scratch);
         loop {
             let best: Vec<Vec<usize>> = (0..self.costs.agents).map(|i| self.best(i)).collect();
             let held = holdings(self.costs.agents, &self.owner, &self.price);
-            match search(&best, &self.owner, &held) {
-                Found::Reachable(reachable) => return reachable,
-                Found::Move(due) => self.make(due, Step::TwoB),
+            match search(&best, &self.owner, &held, &mut line) {
+                None => return (0..self.costs.agents).map(|i| line.has(i)).collect(),
+                Some(due) => self.make(due, Step::TwoB),
             }
         }
     }
@@ -161,7 +165,8 @@ impl<'a> Slow<'a> {
 fn compare(sheet: &[u8]) -> usize {
     let costs = Costs::as_read(&Sheet::parse(sheet).unwrap());
     let mut told = Vec::new();
-    let run = Run::to_the_end(&costs, &mut |made| told.push(made));
+    let mut scratch = [7; MIN_SCRATCH];
+    let run = Run::to_the_end(&costs, &mut scratch, &mut |made| told.push(made));
     let mut slow = Slow::open(&costs);
     slow.run();
     assert_eq!(run.owner, slow.owner, "{sheet:?}");

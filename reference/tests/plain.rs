@@ -3,15 +3,17 @@
 mod common;
 
 use common::Random;
-use reference::limits::{MAX_AGENTS, MAX_CHORES};
+use reference::limits::{MAX_AGENTS, MAX_CHORES, MIN_SCRATCH};
+use reference::share_out::Way;
 use reference::sheet::Sheet;
 use reference::{plain, share_out};
 
 /// Hands back the moves and the cuts.
 fn compare(sheet: &[u8]) -> (u64, u8) {
     let parsed = Sheet::parse(sheet).unwrap();
-    let worked = plain::work(&parsed);
-    assert_eq!(worked, share_out::work(&parsed), "{sheet:?}");
+    let [worked, near_the_text] =
+        [plain::work, share_out::work].map(|work: Way| work(&parsed, &mut [7; MIN_SCRATCH]));
+    assert_eq!(worked, near_the_text, "{sheet:?}");
     (worked.moves, worked.cuts)
 }
 

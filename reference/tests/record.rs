@@ -4,7 +4,7 @@ mod common;
 
 use common::{a, b, c, chores_of, d, e, f, g, share, Random};
 use reference::limits::MIN_SCRATCH;
-use reference::record::{self, MOVE_BYTES};
+use reference::record::{self, Recorded, MOVE_BYTES};
 use reference::share_out::opening;
 use reference::sheet::Sheet;
 use reference::{compose, ShareOut};
@@ -13,9 +13,13 @@ use std::collections::BTreeSet;
 /// A sheet with its record, a row for each move.
 type Row = (Vec<u8>, &'static [[u8; MOVE_BYTES]]);
 
-/// The whole record of an accepted sheet.
+/// The result for an accepted sheet, with its whole record.
+fn recorded(sheet: &[u8]) -> Recorded {
+    record::work(&Sheet::parse(sheet).unwrap(), &mut [80; MIN_SCRATCH])
+}
+
 fn record_of(sheet: &[u8]) -> Vec<u8> {
-    record::work(&Sheet::parse(sheet).unwrap()).record
+    recorded(sheet).record
 }
 
 #[test]
@@ -170,12 +174,11 @@ fn played(sheet: &[u8], record: &[u8]) -> (Vec<u8>, u8) {
 /// Hands back the cuts, and the moves of steps 2a and 2b.
 fn judge(sheet: &[u8]) -> (u8, [usize; 2]) {
     let (owners, prices, moves, cuts) = share(sheet).unwrap();
-    let recorded = record::work(&Sheet::parse(sheet).unwrap());
-    let record = recorded.record;
-    assert_eq!(recorded.worked.owners, owners, "{sheet:?}");
-    assert_eq!(recorded.worked.prices, prices, "{sheet:?}");
-    assert_eq!(recorded.worked.moves, moves, "{sheet:?}");
-    assert_eq!(recorded.worked.cuts, cuts, "{sheet:?}");
+    let Recorded { worked, record } = recorded(sheet);
+    assert_eq!(worked.owners, owners, "{sheet:?}");
+    assert_eq!(worked.prices, prices, "{sheet:?}");
+    assert_eq!(worked.moves, moves, "{sheet:?}");
+    assert_eq!(worked.cuts, cuts, "{sheet:?}");
     assert_eq!(record.len(), MOVE_BYTES * moves as usize, "{sheet:?}");
     let (list, round) = played(sheet, &record);
     assert_eq!(list, owners, "{sheet:?}");

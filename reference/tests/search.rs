@@ -3,8 +3,10 @@
 mod common;
 
 use common::Random;
+use reference::limits::{MAX_AGENTS, MIN_SCRATCH};
+use reference::line::Line;
 use reference::pricing::{holdings, Holding};
-use reference::search::{search, Found, Move};
+use reference::search::{search, Move};
 
 struct State {
     best: Vec<Vec<usize>>,
@@ -14,7 +16,10 @@ struct State {
 
 impl State {
     fn random(random: &mut Random) -> Self {
-        let (agents, chores) = (1 + random.below(7), random.below(12));
+        let (agents, chores) = match random.below(20) {
+            0 => (1 + random.below(MAX_AGENTS), random.below(100)),
+            _ => (1 + random.below(7), random.below(12)),
+        };
         let owner: Vec<usize> = (0..chores).map(|_| random.below(agents)).collect();
         let price: Vec<u64> = (0..chores).map(|_| 1 + random.below(4) as u64).collect();
         let sparse = 2 + random.below(6);
@@ -57,27 +62,45 @@ impl State {
         distance
     }
 
-    fn expected(&self) -> Found {
-        let distance = self.distances();
+    fn expected(&self, distance: &[Option<usize>]) -> Option<Move> {
         let gives =
             |i: &usize| distance[*i].is_some() && self.held[*i].price_up_to_one() > self.least();
-        let Some(giver) = self
+        let giver = self
             .agents()
             .filter(gives)
-            .min_by_key(|&i| (distance[i], i))
-        else {
-            return Found::Reachable(distance.iter().map(Option::is_some).collect());
-        };
+            .min_by_key(|&i| (distance[i], i))?;
         let ring_before = |j: &usize| distance[*j].map(|t| t + 1) == distance[giver];
         let takes = |j: &usize| ring_before(j) && self.chore(giver, *j).is_some();
         let receiver = self.agents().find(takes).unwrap();
         let chore = self.chore(giver, receiver).unwrap();
-        Found::Move(Move {
+        Some(Move {
             giver,
             receiver,
             chore,
         })
     }
+}
+
+/// The first half of the scratch has the distances up to the giver's, or all of
+/// them, and the second half begins with those agents, nearer ones first.
+fn assert_in_line(scratch: &[u8], distance: &[Option<usize>], up_to: Option<usize>) {
+    let seen = |t: &usize| up_to.is_none_or(|most| *t <= most);
+    let distance: Vec<Option<usize>> = distance.iter().map(|t| t.filter(seen)).collect();
+    let (distances, line) = scratch.split_at(MAX_AGENTS);
+    let mut expected: Vec<usize> = distance.iter().map(|t| t.map_or(0, |t| t + 1)).collect();
+    expected.resize(MAX_AGENTS, 0);
+    assert_eq!(numbers(distances), expected);
+    let reached: Vec<usize> = (0..distance.len())
+        .filter(|&i| distance[i].is_some())
+        .collect();
+    let mut line = numbers(&line[..reached.len()]);
+    assert!(line.is_sorted_by_key(|&i| distance[i]), "{line:?}");
+    line.sort_unstable();
+    assert_eq!(line, reached);
+}
+
+fn numbers(bytes: &[u8]) -> Vec<usize> {
+    bytes.iter().copied().map(usize::from).collect()
 }
 
 #[test]
@@ -87,12 +110,15 @@ fn agrees_with_the_definition() {
     let mut far = 0;
     for _ in 0..50_000 {
         let state = State::random(&mut random);
-        let found = search(&state.best, &state.owner, &state.held);
-        assert_eq!(found, state.expected());
-        if let Found::Move(step) = found {
-            moves += 1;
-            far += usize::from(state.distances()[step.giver] > Some(1));
-        }
+        let distance = state.distances();
+        let mut scratch = [0; MIN_SCRATCH].map(|_: u8| random.below(256) as u8);
+        let mut line = Line::new(&mut scratch);
+        let found = search(&state.best, &state.owner, &state.held, &mut line);
+        assert_eq!(found, state.expected(&distance));
+        let up_to = found.and_then(|step| distance[step.giver]);
+        assert_in_line(&scratch, &distance, up_to);
+        moves += usize::from(found.is_some());
+        far += usize::from(up_to > Some(1));
     }
     assert!(moves > 5_000 && moves < 45_000 && far > 500);
 }

@@ -78,13 +78,13 @@ fn limits_of_a_sheet() {
 #[test]
 fn limit_of_the_scratch() {
     for (length, expected) in [
-        (1_024, ShareOut::Shared { moves: 2, cuts: 0 }),
-        (1_023, ShareOut::Refused(8)),
+        (64, ShareOut::Shared { moves: 2, cuts: 0 }),
+        (63, ShareOut::Refused(8)),
     ] {
         let answer = allocate(&b(), &mut [0; 4], &mut [0; 4], &mut vec![1; length]);
         assert_eq!(answer, expected);
     }
-    assert_eq!(MIN_SCRATCH, 1_024);
+    assert_eq!(MIN_SCRATCH, 64);
 }
 
 #[test]
@@ -101,8 +101,8 @@ fn printed_cases() {
         "m 4001 refused 2",
         "b 1000 moves 3 cuts 1 owners 2 2 1 1 2 prices 1000 1000 1000 1000 1",
         "b 1001 refused 3",
-        &format!("scratch 1024 {c}"),
-        "scratch 1023 refused 8",
+        &format!("scratch 64 {c}"),
+        "scratch 63 refused 8",
         "bit 6 refused 4",
         "length 8 refused 5",
         "owners 4 refused 6",
