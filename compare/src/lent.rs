@@ -1,7 +1,7 @@
 //! Memory to lend: random content, with entries around it that must stay.
 
 use crate::random::Random;
-use reference::limits::MIN_SCRATCH;
+use reference::limits::{MAX_AGENTS, MIN_SCRATCH};
 use reference::price_bytes::PRICE_BYTES;
 
 /// An odd number, so that a list of prices seldom starts at a multiple of four.
@@ -103,16 +103,45 @@ pub fn enough(random: &mut Random, chores: usize) -> Lengths {
     [
         chores + random.below(4),
         PRICE_BYTES * chores + random.below(11),
-        MIN_SCRATCH + [0, 0, 0, 1, 40][random.below(5)],
+        enough_scratch(random),
     ]
 }
 
-/// The same with one of them shorter, often too short.
+/// The same with one list shorter, often too short, or with short scratch.
 pub fn short(random: &mut Random, chores: usize) -> Lengths {
     let mut lengths = enough(random, chores);
-    let short = random.below(3);
-    lengths[short] = lengths[short].saturating_sub(1 + random.below(12));
+    match random.below(3) {
+        2 => lengths[2] = short_scratch(random),
+        list => lengths[list] = lengths[list].saturating_sub(1 + random.below(12)),
+    }
     lengths
+}
+
+/// Any at all, each of them often too short for a small sheet.
+pub fn any(random: &mut Random) -> Lengths {
+    let scratch = [enough_scratch, short_scratch][random.below(2)];
+    [random.below(20), random.below(80), scratch(random)]
+}
+
+/// Often no byte more than it must be, up to some hundreds more, or as many as
+/// releases before 6.2.10 asked for.
+pub fn enough_scratch(random: &mut Random) -> usize {
+    match random.below(8) {
+        0..=2 => MIN_SCRATCH,
+        3 => MIN_SCRATCH + 1,
+        4 => 1_024,
+        _ => MIN_SCRATCH + random.below(400),
+    }
+}
+
+/// None, one byte, or from a byte less than all distances take to a byte less
+/// than they and all places in line take.
+pub fn short_scratch(random: &mut Random) -> usize {
+    match random.below(8) {
+        0 => random.below(2),
+        1 => MIN_SCRATCH - 1,
+        _ => MAX_AGENTS - 1 + random.below(MIN_SCRATCH - MAX_AGENTS + 1),
+    }
 }
 
 /// The owners, the bytes of prices, the scratch and, if there is one, the record hold what is expected, and nothing beside them has

@@ -9,7 +9,8 @@ use reference::{dominates, plain, ListVerdict, PriceVerdict};
 
 /// The share-out's list and prices, by the second program.
 pub fn shared_out(sheet: &[u8]) -> (Vec<u8>, Vec<u32>) {
-    let worked = plain::work(&Sheet::parse(sheet).expect("the sheet keeps the rules"));
+    let sheet = Sheet::parse(sheet).expect("the sheet keeps the rules");
+    let worked = plain::work(&sheet, &mut []);
     (worked.owners, worked.prices)
 }
 

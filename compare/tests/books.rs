@@ -3,7 +3,7 @@
 //! moves than its sheets may.
 
 use compare::bound::{assert_few, most_moves};
-use compare::lent::{Lengths, Lent, Twins};
+use compare::lent::{enough_scratch, short_scratch, Lengths, Lent, Twins};
 use compare::random::Random;
 use compare::{books, shapes, sizes, BookAnswers, BOOK_SHEETS};
 use reference::limits::{BOOK_ENTRIES, MAX_BOOK_BYTES, MAX_CHORES, MIN_SCRATCH};
@@ -18,7 +18,7 @@ const FULL: usize = 9;
 
 const LEAST: Lengths = [BOOK_ENTRIES, PRICE_BYTES * BOOK_ENTRIES, MIN_SCRATCH];
 
-/// What is lent is longer by up to so many bytes.
+/// Both long lists are longer by up to so many bytes.
 const MOST_MORE: usize = 40;
 
 /// The five lists of answers.
@@ -170,7 +170,8 @@ fn looked_up(random: &mut Random, book: &[u8]) {
 }
 
 fn enough(random: &mut Random) -> Lengths {
-    LEAST.map(|length| length + [0, 0, 1, 5, MOST_MORE][random.below(5)])
+    let [owners, prices, _] = LEAST.map(|length| length + [0, 0, 1, 5, MOST_MORE][random.below(5)]);
+    [owners, prices, enough_scratch(random)]
 }
 
 /// Adds the sheets of a book that were not refused.
@@ -217,8 +218,10 @@ fn damaged_books() {
         looked_up(&mut random, &book);
         let mut lengths = enough(&mut random);
         // A refused book is refused before short lists are.
-        if random.chance(10) {
-            lengths[random.below(3)] = 0;
+        match random.below(20) {
+            0 => lengths[random.below(3)] = 0,
+            1 => lengths[2] = short_scratch(&mut random),
+            _ => {}
         }
         let answer = compared(&mut random, &mut lists, &book, lengths);
         refused += usize::from(answer == BookShareOut::Refused(9));

@@ -1,11 +1,13 @@
 //! The comparison's own sheets, by the second program alone: what is meant to
-//! keep the rules does, and each fault has its number.
+//! keep the rules does, and each fault has its number. And its lengths.
 
 use compare::damage::{harm, Fault, FAULTS};
+use compare::lent::{enough_scratch, short_scratch};
 use compare::random::Random;
 use compare::{header, shapes, sizes};
 use reference::limits::MAX_CHORES;
 use reference::sheet::{row_bytes, Sheet};
+use std::collections::BTreeSet;
 
 const SHEETS: usize = 2_000;
 
@@ -48,6 +50,19 @@ fn chores_around_full_bytes() {
         let chores = sizes::many_chores(&mut random);
         assert!((200..=MAX_CHORES).contains(&chores));
     }
+}
+
+#[test]
+fn scratch_around_its_limit() {
+    let mut random = Random::new(75);
+    let mut made = |length: fn(&mut Random) -> usize| -> BTreeSet<usize> {
+        (0..SHEETS).map(|_| length(&mut random)).collect()
+    };
+    let enough = made(enough_scratch);
+    assert!(enough.is_superset(&BTreeSet::from([64, 65, 1_024])));
+    assert!(enough.range(..64).next().is_none() && enough.range(66..).count() > 200);
+    let short = (0..2).chain(31..64).collect();
+    assert_eq!(made(short_scratch), short);
 }
 
 /// What a fault alone makes of a sheet that keeps the rules.

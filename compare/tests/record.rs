@@ -4,10 +4,10 @@
 
 use compare::bound::most_moves;
 use compare::damage::damaged;
-use compare::lent::{assert_all_hold, enough, short, Lengths, Lent};
+use compare::lent::{any, assert_all_hold, enough, short, Lengths, Lent};
 use compare::random::Random;
 use compare::{allocate_recorded, header, shapes, sizes, PROVED};
-use reference::limits::MAX_CHORES;
+use reference::limits::{MAX_CHORES, MIN_SCRATCH};
 use reference::record::{self, Recorded, MOVE_BYTES};
 use reference::sheet::Sheet;
 use reference::{price_bytes, refusal, ShareOut};
@@ -23,7 +23,7 @@ type Told = (u8, u64, u8);
 /// One sheet through both programs, with every byte that was lent compared.
 fn compared(
     random: &mut Random,
-    work: impl FnOnce(&Sheet) -> Recorded,
+    work: impl FnOnce(&Sheet, &mut [u8]) -> Recorded,
     sheet: &[u8],
     lengths: Lengths,
     record_length: usize,
@@ -77,6 +77,10 @@ fn assert_same_without(sheet: &[u8], lent: &[Lent<u8>; 4], held: Counts, got: To
     }
 }
 
+fn worked(sheet: &Sheet) -> Recorded {
+    record::work(sheet, &mut [0; MIN_SCRATCH])
+}
+
 /// Exact, a byte short, longer, none, and room for the most moves that are
 /// made room for.
 fn record_lengths(random: &mut Random, exact: usize, most: u64) -> [usize; 5] {
@@ -126,7 +130,7 @@ fn compare_all(
     for _ in 0..count {
         let sheet = sheet(&mut random);
         let parsed = Sheet::parse(&sheet).expect("the sheet keeps the rules");
-        let recorded = record::work(&parsed);
+        let recorded = worked(&parsed);
         let most = most_moves(&sheet).min(most);
         compare_lengths(&mut random, &sheet, &recorded, most);
         seen.add(&parsed, &recorded.record);
@@ -141,7 +145,7 @@ fn compare_all(
 fn compare_lengths(random: &mut Random, sheet: &[u8], recorded: &Recorded, most: u64) {
     let exact = recorded.record.len();
     for length in record_lengths(random, exact, most) {
-        let work = |_: &Sheet| recorded.clone();
+        let work = |_: &Sheet, _: &mut [u8]| recorded.clone();
         let lengths = enough(random, header::chores(sheet));
         let number = compared(random, work, sheet, lengths, length);
         let fits = if length < exact { refusal::RECORD } else { 0 };
@@ -171,7 +175,7 @@ fn records_of_long_sheets() {
 fn some_lengths(random: &mut Random, chores: usize) -> Lengths {
     match random.below(4) {
         0 => short(random, chores),
-        1 => [random.below(20), random.below(80), random.below(2_048)],
+        1 => any(random),
         _ => enough(random, chores),
     }
 }
@@ -187,7 +191,7 @@ fn faults_one_and_several() {
             sheet = damaged(&mut random, sheet);
         }
         let (chores, exact, most) = Sheet::parse(&sheet).map_or((0, 0, 0), |parsed| {
-            let exact = record::work(&parsed).record.len();
+            let exact = worked(&parsed).record.len();
             (parsed.chores, exact, most_moves(&sheet))
         });
         let lengths = some_lengths(&mut random, chores);

@@ -3,12 +3,12 @@
 
 use compare::bound::{assert_few, parts};
 use compare::damage::{harm, one_or_two};
-use compare::lent::{assert_all_hold, enough, short, Lengths, Lent};
+use compare::lent::{any, assert_all_hold, enough, short, Lengths, Lent};
 use compare::random::Random;
 use compare::shapes::{self, Shape};
 use compare::{header, sizes, PROVED};
 use reference::limits::MAX_CHORES;
-use reference::share_out::Worked;
+use reference::share_out::Way;
 use reference::sheet::{row_bytes, Sheet, HEADER_BYTES};
 use reference::{plain, price_bytes, share_out, ShareOut};
 
@@ -22,8 +22,6 @@ const LARGEST: usize = 10;
 
 const DAMAGED: usize = 45_000;
 const SHORT: usize = 40_000;
-
-type Way = fn(&Sheet) -> Worked;
 
 /// One sheet through both programs, with every byte that was lent compared.
 fn compared(random: &mut Random, way: Way, sheet: &[u8], lengths: Lengths) -> ShareOut {
@@ -159,7 +157,7 @@ fn largest_sheets() {
 fn some_lengths(random: &mut Random, sheet: &[u8]) -> Lengths {
     match Sheet::parse(sheet) {
         Ok(sheet) if random.chance(80) => enough(random, sheet.chores),
-        _ => [random.below(20), random.below(80), random.below(2_048)],
+        _ => any(random),
     }
 }
 
