@@ -63,6 +63,7 @@ static uint8_t refusal_of(uint32_t agents, uint32_t chores, uint32_t difficult, 
 static void test_limits(void)
 {
     const uint32_t n = AGENTS, m = CHORES, s = SHARES_SCRATCH;
+    expect("limits", "the least scratch", s, 64);
     expect("limits", "all of them", refusal_of(n, m, SHARES_MAX_WEIGHT, s), SHARES_OK);
     expect("limits", "an agent too many", refusal_of(n + 1, m, SHARES_MAX_WEIGHT, s), SHARES_BAD_AGENTS);
     expect("limits", "a chore too many", refusal_of(n, m + 1, SHARES_MAX_WEIGHT, s), SHARES_BAD_CHORES);

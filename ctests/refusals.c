@@ -115,9 +115,12 @@ static void test_sheets(void)
         const size_t length = faults[i].length;
         const uint8_t number = faults[i].number;
         expect_kept("allocate", what, allocate(bytes, length, CHORES, PRICES, SHARES_SCRATCH), number);
+        expect_kept("allocate, scratch 63", what, allocate(bytes, length, CHORES, PRICES, SHARES_SCRATCH - 1), number);
         expect_kept("allocate into nothing", what, allocate(bytes, length, 0, 0, 0), number);
         expect_kept("allocate_recorded", what,
                     allocate_recorded(bytes, length, CHORES, PRICES, SHARES_SCRATCH, RECORD), number);
+        expect_kept("allocate_recorded, scratch 63", what,
+                    allocate_recorded(bytes, length, CHORES, PRICES, SHARES_SCRATCH - 1, RECORD), number);
         expect_kept("allocate_recorded without a record", what,
                     allocate_recorded(bytes, length, CHORES, PRICES, SHARES_SCRATCH, 0), number);
         expect_kept("allocate_recorded into nothing", what, allocate_recorded(bytes, length, 0, 0, 0, 0), number);
@@ -155,7 +158,9 @@ static void test_allocate(void)
     expect_kept(call, "4 owners", allocate(sheet, WHOLE, CHORES - 1, PRICES, SHARES_SCRATCH), SHARES_SHORT_LIST);
     expect_kept(call, "19 bytes of prices", allocate(sheet, WHOLE, CHORES, PRICES - 1, SHARES_SCRATCH),
                 SHARES_SHORT_LIST);
-    expect_kept(call, "scratch 1023", allocate(sheet, WHOLE, CHORES, PRICES, SHARES_SCRATCH - 1), SHARES_SHORT_LIST);
+    expect_kept(call, "scratch 63", allocate(sheet, WHOLE, CHORES, PRICES, SHARES_SCRATCH - 1), SHARES_SHORT_LIST);
+    expect_kept(call, "4 owners, scratch 63", allocate(sheet, WHOLE, CHORES - 1, PRICES, SHARES_SCRATCH - 1),
+                SHARES_SHORT_LIST);
 }
 
 /* A record of this length is enough for the three moves. */
@@ -178,8 +183,9 @@ static void test_allocate_recorded(void)
     expect_kept(call, "4 owners", allocate_recorded(sheet, WHOLE, CHORES - 1, PRICES, s, RECORD), SHARES_SHORT_LIST);
     expect_kept(call, "19 bytes of prices", allocate_recorded(sheet, WHOLE, CHORES, PRICES - 1, s, RECORD),
                 SHARES_SHORT_LIST);
-    expect_kept(call, "scratch 1023", allocate_recorded(sheet, WHOLE, CHORES, PRICES, s - 1, RECORD),
-                SHARES_SHORT_LIST);
+    expect_kept(call, "scratch 63", allocate_recorded(sheet, WHOLE, CHORES, PRICES, s - 1, RECORD), SHARES_SHORT_LIST);
+    expect_kept(call, "19 bytes of prices, scratch 63",
+                allocate_recorded(sheet, WHOLE, CHORES, PRICES - 1, s - 1, RECORD), SHARES_SHORT_LIST);
     expect_kept(call, "a record of 17 bytes", allocate_recorded(sheet, WHOLE, CHORES, PRICES, s, RECORD - 1),
                 SHARES_SHORT_RECORD);
     expect_kept(call, "no record", allocate_recorded(sheet, WHOLE, CHORES, PRICES, s, 0), SHARES_SHORT_RECORD);
@@ -188,7 +194,7 @@ static void test_allocate_recorded(void)
                 allocate_recorded(sheet, WHOLE, CHORES - 1, PRICES, s, RECORD - 1), SHARES_SHORT_LIST);
     expect_kept(call, "19 bytes of prices, no record", allocate_recorded(sheet, WHOLE, CHORES, PRICES - 1, s, 0),
                 SHARES_SHORT_LIST);
-    expect_kept(call, "scratch 1023, a record of 17 bytes",
+    expect_kept(call, "scratch 63, a record of 17 bytes",
                 allocate_recorded(sheet, WHOLE, CHORES, PRICES, s - 1, RECORD - 1), SHARES_SHORT_LIST);
 }
 
@@ -298,8 +304,10 @@ static void no_book(const char *what, size_t length)
     expect_kept("find_sheet", what, find_sheet(book, length, 1), SHARES_BAD_BOOK);
     expect_kept("allocate_book", what, allocate_book(book, length, SHARES_BOOK_ENTRIES, LONG_PRICES, SHARES_SCRATCH),
                 SHARES_BAD_BOOK);
-    /* Lists are looked at after the book. */
-    expect_kept("allocate_book", what, allocate_book(book, length, 0, 0, 0), SHARES_BAD_BOOK);
+    /* Lists and scratch are looked at after the book. */
+    expect_kept("allocate_book into nothing", what, allocate_book(book, length, 0, 0, 0), SHARES_BAD_BOOK);
+    expect_kept("allocate_book, scratch 63", what,
+                allocate_book(book, length, SHARES_BOOK_ENTRIES, LONG_PRICES, SHARES_SCRATCH - 1), SHARES_BAD_BOOK);
 }
 
 static void test_no_books(void)
@@ -349,7 +357,14 @@ static void test_allocate_book(void)
                 allocate_book(book, length, SHARES_BOOK_ENTRIES - 1, LONG_PRICES, SHARES_SCRATCH), SHARES_SHORT_LIST);
     expect_kept("allocate_book", "255,999 bytes of prices",
                 allocate_book(book, length, SHARES_BOOK_ENTRIES, LONG_PRICES - 1, SHARES_SCRATCH), SHARES_SHORT_LIST);
-    expect_kept("allocate_book", "scratch 1023",
+    expect_kept("allocate_book", "scratch 63",
+                allocate_book(book, length, SHARES_BOOK_ENTRIES, LONG_PRICES, SHARES_SCRATCH - 1), SHARES_SHORT_LIST);
+    expect_kept("allocate_book", "63,999 owners, scratch 63",
+                allocate_book(book, length, SHARES_BOOK_ENTRIES - 1, LONG_PRICES, SHARES_SCRATCH - 1),
+                SHARES_SHORT_LIST);
+    /* Sheets are looked at after the scratch. */
+    book[9] = 0;
+    expect_kept("allocate_book", "scratch 63, no agents",
                 allocate_book(book, length, SHARES_BOOK_ENTRIES, LONG_PRICES, SHARES_SCRATCH - 1), SHARES_SHORT_LIST);
 }
 

@@ -1,5 +1,6 @@
-/* Rows of all widths, chore numbers of two bytes, and a book that fills its
- * long lists. The sheets are such that their lists are known beforehand. */
+/* Rows of all widths, chore numbers of two bytes, a book that fills its long
+ * lists, and scratch of several lengths. Most sheets are such that their lists
+ * are known beforehand. */
 #include <stdbool.h>
 
 #include "sheets.h"
@@ -9,22 +10,38 @@
 /* Bytes after each list. */
 #define REST 20
 #define FILLED 0xa5
+#define LONG_SCRATCH 4096
 
-/* All that is ever lent. */
+/* All that is ever lent but for the scratch. */
 static struct {
     uint8_t owners[SHARES_BOOK_ENTRIES + REST], prices[LONG_PRICES + REST], record[RECORD + REST];
-    uint8_t scratch[SHARES_SCRATCH], refusals[SHARES_BOOK_SHEETS], cuts[SHARES_BOOK_SHEETS];
+    uint8_t refusals[SHARES_BOOK_SHEETS], cuts[SHARES_BOOK_SHEETS];
     uint64_t moves[SHARES_BOOK_SHEETS], tally[2];
     uint32_t firsts[SHARES_BOOK_SHEETS];
-} lent;
+} lent, with_zeros;
+
+/* The scratch, with bytes before and after it, its length, and what it holds at first. */
+static uint8_t around[REST + LONG_SCRATCH + REST], *const scratch = around + REST;
+static size_t scratch_len = SHARES_SCRATCH;
+static enum { ZEROS, ONES, ANY } content = ONES;
 
 /* A sheet with a byte after it, and the list that is wanted. */
 static uint8_t sheet[SHEET + 1], owners[SHARES_BOOK_ENTRIES];
 static char marks[MARKS];
 
+static void fill_scratch(void)
+{
+    uint32_t state = 7;
+    memset(around, FILLED, sizeof around);
+    memset(scratch, content == ONES ? 0xff : 0, scratch_len);
+    for (size_t k = 0; content == ANY && k < scratch_len; k++)
+        scratch[k] = (uint8_t)draw(&state, 256);
+}
+
 static void fill(void)
 {
     memset(&lent, FILLED, sizeof lent);
+    fill_scratch();
 }
 
 static bool is_filled(const uint8_t *rest)
@@ -35,6 +52,15 @@ static bool is_filled(const uint8_t *rest)
     return k == REST;
 }
 
+/* All of it, and no byte beside it. */
+static bool is_scratch_cleared(void)
+{
+    size_t k = 0;
+    while (k < scratch_len && scratch[k] == 0)
+        k++;
+    return k == scratch_len && is_filled(around) && is_filled(scratch + scratch_len);
+}
+
 /* The first m owners are those wanted, the first m prices are 3, and what follows is kept. */
 static void expect_lists(const char *call, const char *what, size_t m)
 {
@@ -43,6 +69,7 @@ static void expect_lists(const char *call, const char *what, size_t m)
         priced++;
     expect(call, what, memcmp(lent.owners, owners, m) == 0 && priced == m, 1);
     expect(call, "beyond the lists", is_filled(lent.owners + m) && is_filled(lent.prices + SHARES_PRICE_BYTES * m), 1);
+    expect(call, "the scratch", is_scratch_cleared(), 1);
 }
 
 /* Each chore is easy for its owner alone, and nobody has two more than another. Hands back the sheet's length. */
@@ -63,8 +90,8 @@ static size_t deal(uint32_t n, size_t m)
 static uint8_t allocate(size_t length, size_t m)
 {
     fill();
-    return shares_allocate(sheet, length, lent.owners, m, lent.prices, SHARES_PRICE_BYTES * m, lent.scratch,
-                           sizeof lent.scratch, lent.moves, lent.cuts);
+    return shares_allocate(sheet, length, lent.owners, m, lent.prices, SHARES_PRICE_BYTES * m, scratch, scratch_len,
+                           lent.moves, lent.cuts);
 }
 
 /* Each bit after the last chore, set in the byte at `at`. */
@@ -180,11 +207,11 @@ static void test_widths(void)
         test_width(wide[k]);
 }
 
-static uint8_t allocate_recorded(size_t record_len)
+static uint8_t allocate_recorded(size_t length, size_t m, size_t record_len)
 {
     fill();
-    return shares_allocate_recorded(sheet, LEANING, lent.owners, CHORES, lent.prices, PRICES, lent.scratch,
-                                    sizeof lent.scratch, lent.record, record_len, lent.moves, lent.cuts);
+    return shares_allocate_recorded(sheet, length, lent.owners, m, lent.prices, SHARES_PRICE_BYTES * m, scratch,
+                                    scratch_len, lent.record, record_len, lent.moves, lent.cuts);
 }
 
 /* The moves that the record has as they should be, one chore after the other. */
@@ -203,7 +230,7 @@ static void expect_recorded(const char *what, size_t few, size_t record_len)
 {
     const char *call = "allocate_recorded";
     lean(sheet, owners, CHORES, 'e', few);
-    expect(call, what, allocate_recorded(record_len), SHARES_OK);
+    expect(call, what, allocate_recorded(LEANING, CHORES, record_len), SHARES_OK);
     expect("allocate_recorded, moves and cuts", what, lent.moves[0] == MOVED && lent.cuts[0] == 0, 1);
     expect_lists(call, what, CHORES);
     expect("allocate_recorded, record", what, right_moves(few), MOVED);
@@ -218,13 +245,16 @@ static void test_record(void)
     expect_recorded("chores 201 to 2,200, record of 12,000", 200, needed);
     expect_recorded("chores 2,001 to 4,000, record of 12,000", MOVED, needed);
     expect_recorded("chores 2,001 to 4,000, record of 48,000", MOVED, SHARES_MOVE_BYTES * SHARES_MOST_MOVES(2, CHORES));
-    expect("allocate_recorded", "record of 11,999", allocate_recorded(needed - 1), SHARES_SHORT_RECORD);
+    expect("allocate_recorded", "record of 11,999", allocate_recorded(LEANING, CHORES, needed - 1),
+           SHARES_SHORT_RECORD);
 }
 
 #define BOOK (1 + 4 * SHARES_BOOK_SHEETS + SHARES_BOOK_SHEETS * LEANING)
 
+static uint8_t book[BOOK];
+
 /* Each of its sheets has another list. */
-static void make_book(uint8_t *book)
+static void make_book(void)
 {
     size_t at = 1 + 4 * SHARES_BOOK_SHEETS;
     book[0] = SHARES_BOOK_SHEETS;
@@ -234,30 +264,108 @@ static void make_book(uint8_t *book)
     }
 }
 
-static uint8_t allocate_book(const uint8_t *book, size_t owners_len, size_t prices_len)
+static uint8_t allocate_book(size_t book_len, size_t owners_len, size_t prices_len)
 {
     fill();
-    return shares_allocate_book(book, BOOK, lent.owners, owners_len, lent.prices, prices_len, lent.scratch,
-                                sizeof lent.scratch, lent.refusals, lent.moves, lent.cuts, lent.firsts, lent.tally);
+    return shares_allocate_book(book, book_len, lent.owners, owners_len, lent.prices, prices_len, scratch, scratch_len,
+                                lent.refusals, lent.moves, lent.cuts, lent.firsts, lent.tally);
 }
 
 /* Sixteen sheets of 4,000 chores fill lists of 64,000 entries. */
 static void test_book(void)
 {
-    static uint8_t book[BOOK];
     const char *call = "allocate_book";
     uint32_t told = 0;
-    make_book(book);
-    expect(call, "full lists", allocate_book(book, SHARES_BOOK_ENTRIES, LONG_PRICES), SHARES_OK);
+    make_book();
+    expect(call, "full lists", allocate_book(BOOK, SHARES_BOOK_ENTRIES, LONG_PRICES), SHARES_OK);
     expect_lists(call, "full lists", SHARES_BOOK_ENTRIES);
     for (size_t k = 0; k < SHARES_BOOK_SHEETS; k++)
         told += lent.refusals[k] == SHARES_OK && lent.moves[k] == MOVED && lent.cuts[k] == 0 &&
                 lent.firsts[k] == CHORES * k;
     expect(call, "every sheet", told, SHARES_BOOK_SHEETS);
     expect(call, "tally", lent.tally[0] == MOVED * SHARES_BOOK_SHEETS && lent.tally[1] == 0, 1);
-    expect(call, "63,999 owners", allocate_book(book, SHARES_BOOK_ENTRIES - 1, LONG_PRICES), SHARES_SHORT_LIST);
-    expect(call, "255,999 bytes of prices", allocate_book(book, SHARES_BOOK_ENTRIES, LONG_PRICES - 1),
+    expect(call, "63,999 owners", allocate_book(BOOK, SHARES_BOOK_ENTRIES - 1, LONG_PRICES), SHARES_SHORT_LIST);
+    expect(call, "255,999 bytes of prices", allocate_book(BOOK, SHARES_BOOK_ENTRIES, LONG_PRICES - 1),
            SHARES_SHORT_LIST);
+}
+
+/* A book of the sheet, of no bytes, and of the sheet again. Hands back its length. */
+static size_t make_small_book(size_t length)
+{
+    const size_t lengths[] = {length, 0, length};
+    size_t at = 1 + 4 * 3;
+    book[0] = 3;
+    for (size_t k = 0; k < 3; k++) {
+        put_two(put_two(book + 1 + 4 * k, at), lengths[k]);
+        memcpy(book + at, sheet, lengths[k]);
+        at += lengths[k];
+    }
+    return at;
+}
+
+static uint8_t allocate_with_record(size_t length, size_t m)
+{
+    return allocate_recorded(length, m, RECORD);
+}
+
+static uint8_t allocate_in_book(size_t length, size_t m)
+{
+    (void)m;
+    return allocate_book(make_small_book(length), SHARES_BOOK_ENTRIES, LONG_PRICES);
+}
+
+/* In any scratch a share-out leaves the same as in 64 zeros, and the scratch as zeros. */
+static void expect_same(const char *call, uint8_t (*share_out)(size_t, size_t), size_t length, size_t m)
+{
+    static const size_t lengths[] = {64, 65, 100, 1024, LONG_SCRATCH};
+    char what[100];
+    scratch_len = SHARES_SCRATCH;
+    content = ZEROS;
+    expect(call, "scratch of zeros", share_out(length, m), SHARES_OK);
+    memcpy(&with_zeros, &lent, sizeof lent);
+    for (size_t k = 0; k < 2 * sizeof lengths / sizeof *lengths; k++) {
+        scratch_len = lengths[k / 2];
+        content = k % 2 == 0 ? ONES : ANY;
+        snprintf(what, sizeof what, "%d x %zu, scratch of %zu", sheet[0], m, scratch_len);
+        expect(call, what, share_out(length, m), SHARES_OK);
+        expect(call, what, memcmp(&lent, &with_zeros, sizeof lent) == 0, 1);
+        expect(call, what, is_scratch_cleared(), 1);
+    }
+}
+
+static void test_scratch_on(size_t length, size_t m)
+{
+    expect_same("allocate", allocate, length, m);
+    expect_same("allocate_recorded", allocate_with_record, length, m);
+    expect_same("allocate_book", allocate_in_book, length, m);
+}
+
+/* Each chore but the first is easy for two agents, and opens with the first of them. So the last agent holds none,
+ * everybody is in line from there to the first, who holds two, and one chore after the other is passed on. */
+static size_t relay(void)
+{
+    const struct rows rows = {{AGENTS, 1, 3}, marks, AGENTS};
+    memset(marks, 'd', AGENTS * AGENTS);
+    for (size_t i = 0; i < AGENTS; i++) {
+        marks[AGENTS * i + i] = 'e';
+        if (i + 1 < AGENTS)
+            marks[AGENTS * i + i + 1] = 'e';
+        owners[i] = (uint8_t)(i + 1);
+    }
+    return pack(sheet, &rows, 0, AGENTS);
+}
+
+static void test_scratch(void)
+{
+    const char *what = "everybody in line";
+    size_t length = relay();
+    expect("allocate", what, allocate(length, AGENTS), SHARES_OK);
+    expect("allocate, moves and cuts", what, lent.moves[0] == AGENTS - 1 && lent.cuts[0] == 0, 1);
+    expect_lists("allocate", what, AGENTS);
+    test_scratch_on(length, AGENTS);
+    const struct rows rows = draw_rows(marks, 3);
+    test_scratch_on(pack(sheet, &rows, 0, 200), 200);
+    expect("allocate_book", "several cuts", lent.cuts[0] > 1, 1);
 }
 
 int main(void)
@@ -265,5 +373,6 @@ int main(void)
     test_widths();
     test_record();
     test_book();
+    test_scratch();
     return finished("sizes in C");
 }

@@ -134,8 +134,7 @@ pub fn enough_scratch(random: &mut Random) -> usize {
     }
 }
 
-/// None, one byte, or from a byte less than all distances take to a byte less
-/// than they and all places in line take.
+/// None, one byte, or 31 to 63: with 31 not even all distances fit.
 pub fn short_scratch(random: &mut Random) -> usize {
     match random.below(8) {
         0 => random.below(2),
