@@ -1,5 +1,6 @@
 //! The comparison's own sheets, by the second program alone: what is meant to
-//! keep the rules does, and each fault has its number. And its lengths.
+//! keep the rules does, and each fault has its number. Scratch has every length
+//! near its limit.
 
 use compare::damage::{harm, Fault, FAULTS};
 use compare::lent::{enough_scratch, short_scratch};
