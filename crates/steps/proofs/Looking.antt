@@ -11,7 +11,7 @@ use Rattle.model.specs.Step2b.{receiver2b, chore2b}
 use Rattle.rings.proofs.Found.{receiver-is, chore-is}
 use Rattle.steps.specs.Looks.{Look, lowestOf, choreFor}
 
-module _ {s owners prices groups entitled likes : List ℕ} {giver takers reached free grouped : ℕ} {any : Bool} (L : Look s owners prices groups entitled likes giver takers reached free grouped any) (somebody : giver < agentsOf s) where
+module _ {s owners prices groups entitled likes : List ℕ} {giver takers free grouped : ℕ} {any : Bool} {lent scratch : List ℕ} (L : Look s owners prices groups entitled likes giver takers free grouped any lent scratch) (somebody : giver < agentsOf s) where
   pub look-receiver : lowestOf (agentsOf s) takers ≡ receiver2b (asRead s) (ownerOf owners) (priceOf prices)
   unfolding lowestOf asRead
   look-receiver = receiver-is (L .searched) somebody

@@ -6,20 +6,18 @@ use mathlib.Core.List.{List}
 use mathlib.Core.Path.{_≡_, sym, ap, ap₂, _∙_}
 use native.Mathlib.Nat.{le-trans, mul-le-mul}
 use native.Mathlib.Omega.{arith}
-use lib.Dec.{eqb, ltb}
+use lib.Dec.{ltb}
 use lib.ListN.{length, getD, replicate}
 use borrow.Author.Tests.{lt-ltb}
 use Rattle.finite.specs.Sums.{minTo}
 use Rattle.finite.specs.Search.{anyBelow}
-use Rattle.finite.specs.Bits.{SetOf}
 use Rattle.finite.proofs.Search.{any-intro, any-cong}
 use Rattle.finite.proofs.Extremes.{low-cong}
-use Rattle.finite.proofs.Bits.{set-cong}
 use Rattle.model.specs.Limits.{maxAgents, maxPrice, maxWeight}
 use Rattle.model.specs.Instance.{ownerOf, priceOf}
 use Rattle.model.specs.Sheet.{agentsOf, choresOf, difficultWeight, asRead}
 use Rattle.model.specs.Prices.{best, priceSum, priceUpToOne}
-use Rattle.model.specs.Step2b.{leastSum, ofLeastSum, above}
+use Rattle.model.specs.Step2b.{leastSum, above}
 use Rattle.model.specs.Algorithm.{group, isEntitled}
 use Rattle.sheet.specs.Valid.{Valid}
 use Rattle.algorithm.specs.Kinds.{Sound, wanted}
@@ -116,19 +114,19 @@ module _ {s owners prices groups entitled likes : List ℕ} (R : Ready s owners 
     least-is e = e ∙ rw agents (low-cong (agentsOf s) sum-is)
 
     -- what the search of 2b starts from
-    pub searching : {offers : List ℕ} {least start free grouped : ℕ} → Asking (asRead s) (priceOf prices) groups entitled likes free grouped → Offered owners entitled likes free grouped (length owners) offers → least ≡ minTo n (λ i. getD sums i 0) → SetOf n start (λ i. eqb (getD sums i 0) least) → Searching (asRead s) (ownerOf owners) (priceOf prices) offers ups least start
-    unfolding asRead ofLeastSum
-    searching {least = least} a o e b =
+    pub searching : {offers : List ℕ} {least free grouped : ℕ} → Asking (asRead s) (priceOf prices) groups entitled likes free grouped → Offered owners entitled likes free grouped (length owners) offers → least ≡ minTo n (λ i. getD sums i 0) → Searching (asRead s) (ownerOf owners) (priceOf prices) offers sums ups least
+    unfolding asRead
+    searching a o e =
         record {
           some = R .valid .someAgent;
           offered = λ i h. offer-set a (rw (R .ownersSized) at o) i h (R .valid .agentsFit);
+          sum = sum-is;
           up = up-is;
           leastIs = least-is e;
-          startIs = set-cong (λ i h. ap₂ eqb (sum-is i h) (least-is e)) (rw agents at b);
         }
 
     -- whether anybody is above the least sum: a giver is, and without one the code looks for somebody
-    pub any-giver : {giver takers reached : ℕ} → Searched (asRead s) (ownerOf owners) (priceOf prices) giver takers reached → giver < n → ltb giver n ≡ anyBelow (agentsOf s) (above (asRead s) (ownerOf owners) (priceOf prices))
+    pub any-giver : {giver takers : ℕ} {lent scratch : List ℕ} → Searched (asRead s) (ownerOf owners) (priceOf prices) giver takers lent scratch → giver < n → ltb giver n ≡ anyBelow (agentsOf s) (above (asRead s) (ownerOf owners) (priceOf prices))
     unfolding asRead
     any-giver {giver} F some =
         let due = due-found (asRead s) (ownerOf owners) (priceOf prices) (R .valid .someAgent) (F .due (rw agents at some)) in

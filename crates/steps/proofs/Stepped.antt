@@ -6,7 +6,7 @@ use mathlib.Core.List.{List}
 use mathlib.Core.Path.{_≡_, refl, sym, _∙_}
 use native.Mathlib.Omega.{arith}
 use lib.ListN.{length, getD}
-use Rattle.finite.specs.Bits.{bit}
+use Rattle.finite.specs.Bits.{bit, SetOf}
 use Rattle.finite.specs.Lists.{tabulate}
 use Rattle.model.specs.Limits.{maxAgents}
 use Rattle.model.specs.Instance.{ownerOf, priceOf}
@@ -16,6 +16,8 @@ use Rattle.algorithm.proofs.Actions.{hands2b, cuts2b, stops2b}
 use Rattle.algorithm.proofs.Machine.{fewer-cuts}
 use Rattle.algorithm.proofs.Rings.{due-found}
 use Rattle.market.specs.Cutting.{Cutting, CutPrices}
+use Rattle.rings.specs.Line.{isReached}
+use Rattle.rings.proofs.Found.{reached-is}
 use Rattle.steps.specs.declared.Turn.{Turn}
 use Rattle.steps.specs.declared.Turn.the-variants.{Cut, Ended}
 use Rattle.steps.specs.Turns.{stateOf, Turning, Turned}
@@ -34,7 +36,7 @@ module _ {s owners prices groups entitled likes : List ℕ} {cuts : ℕ} (T : Tu
   unfolding asRead
   cuts-fit = omega (arith, fewer-cuts (T .reached), T .ready .valid .agentsFit)
 
-  module _ {giver takers reached free grouped : ℕ} {any : Bool} (L : Look s owners prices groups entitled likes giver takers reached free grouped any) where
+  module _ {giver takers free grouped : ℕ} {any : Bool} {lent scratch : List ℕ} (L : Look s owners prices groups entitled likes giver takers free grouped any lent scratch) where
     size : length owners ≡ choresOf s
     size = T .ready .ownersSized
 
@@ -83,10 +85,10 @@ module _ {s owners prices groups entitled likes : List ℕ} {cuts : ℕ} (T : Tu
       unfolding asRead
       none = L .searched .none end
 
-      pub cuts-on : any ≡ true → {a b : ℕ} {prices′ groups′ entitled′ : List ℕ} → a ≡ easyWeight s → b ≡ difficultWeight s → CutPrices owners prices entitled prices′ entitled′ reached a b → groups′ ≡ tabulate (length groups) (λ i. cond (bit reached i) (cuts + 1) (getD groups i 0)) → Turned s owners prices groups entitled cuts 0 Cut owners prices′ groups′ entitled′
+      pub cuts-on : any ≡ true → {n group a b : ℕ} {prices′ groups′ entitled′ : List ℕ} → n ≡ agentsOf s → SetOf n group (isReached scratch) → a ≡ easyWeight s → b ≡ difficultWeight s → CutPrices owners prices entitled prices′ entitled′ group a b → groups′ ≡ tabulate (length groups) (λ i. cond (bit group i) (cuts + 1) (getD groups i 0)) → Turned s owners prices groups entitled cuts 0 Cut owners prices′ groups′ entitled′
       unfolding asRead
-      cuts-on some e d C =
-          cut-off T (L .searched .all end)
+      cuts-on some k r e d C =
+          cut-off T (reached-is (L .searched) (T .ready .valid .someAgent) end (rw k at r))
           (λ moves. cuts2b (asRead s) (stateOf owners prices groups entitled moves cuts 0) refl none (sym (L .anyIs) ∙ some))
           (rw (e, d) at C)
 

@@ -16,9 +16,9 @@ use Rattle.rings.specs.Search.{Searched}
 use Rattle.steps.specs.declared.Turn.{Turn}
 use Rattle.steps.specs.declared.Turn.the-variants.{Moved}
 
--- the search's answer on the state, and the sets of agents in no group (free) and in some group (grouped)
-pub record Look (s owners prices groups entitled likes : List ℕ) (giver takers reached free grouped : ℕ) (any : Bool) : Type 0 where
-  pub searched : Searched (asRead s) (ownerOf owners) (priceOf prices) giver takers reached
+-- the search's answer on the state, in the scratch too, and the sets of agents in no group (free) and in some group (grouped)
+pub record Look (s owners prices groups entitled likes : List ℕ) (giver takers free grouped : ℕ) (any : Bool) (lent scratch : List ℕ) : Type 0 where
+  pub searched : Searched (asRead s) (ownerOf owners) (priceOf prices) giver takers lent scratch
   pub asking : Asking (asRead s) (priceOf prices) groups entitled likes free grouped
   pub anyIs : any ≡ anyBelow (agentsOf s) (above (asRead s) (ownerOf owners) (priceOf prices))
 

@@ -1,5 +1,8 @@
 // One turn of the loop is one step of Algorithm 1.
 ghost use Prim.Native.Nat.{_<_};
+ghost use mathlib.Core.Path.{_≡_};
+ghost use lib.ListN.{length};
+ghost use Rattle.model.specs.Limits.{scratchSize};
 ghost use Rattle.steps.specs.Turns.{Ready, Turning, Turned};
 ghost use Rattle.steps.specs.Looks.{Look, Handing, HandedOver};
 use market::choices::first_free;
@@ -10,8 +13,8 @@ use market::cuts::cut_prices;
 use market::sums::any_above;
 use market::sums::by_group;
 use market::sums::least_of;
-use market::sums::of_sum;
 use market::words::lowest;
+use rings::line::reached;
 use rings::offers::add_offers;
 use rings::offers::first_wanted;
 use rings::search::search;
@@ -34,7 +37,6 @@ pub enum Turn {
 struct Seen {
     giver: usize,
     takers: u32,
-    reached: u32,
     free: u32,
     grouped: u32,
     any: bool,
@@ -47,27 +49,27 @@ fn look(
     groups: &[u8],
     entitled: &[u8],
     likes: &[u32],
+    scratch: &mut [u8],
 ) -> Seen
     requires { ⌜ Ready (now sheet) (now owners) (now prices) (now groups) (now entitled) (now likes) ⌝ }
-    ensures { λ r. ⌜ Look (now (sheet .entry)) (now (owners .entry)) (now (prices .entry)) (now (groups .entry)) (now (entitled .entry)) (now (likes .entry)) (r .giver) (r .takers) (r .reached) (r .free) (r .grouped) (r .any) ⌝ }
+    requires { ⌜ length (now scratch) ≡ scratchSize ⌝ }
+    ensures { λ r. ⌜ Look (now (sheet .entry)) (now (owners .entry)) (now (prices .entry)) (now (groups .entry)) (now (entitled .entry)) (now (likes .entry)) (r .giver) (r .takers) (r .free) (r .grouped) (r .any) (now (scratch .entry)) (now (scratch .exit)) ⌝ }
 {
     let n = sheet::agents(sheet);
     let mut sums = zeros();
     let mut ups = zeros();
     sum_up(n, owners, prices, &mut sums, &mut ups);
     let least = least_of(n, &sums);
-    let start = of_sum(n, &sums, least);
     let sides = by_group(groups);
     let free = sides.free;
     let grouped = sides.grouped;
     let mut offers = zeros();
     add_offers(owners, entitled, likes, free, grouped, &mut offers);
-    let found = search(n, &offers, &ups, least, start);
+    let found = search(n, &offers, &sums, &ups, least, scratch);
     let any = found.giver < n || any_above(n, &ups, least);
     Seen {
         giver: found.giver,
         takers: found.takers,
-        reached: found.reached,
         free,
         grouped,
         any,
@@ -107,14 +109,15 @@ pub fn step_2b(
     entitled: &mut [u8],
     likes: &[u32],
     cuts: u8,
+    scratch: &mut [u8],
 ) -> Turn
     requires { ⌜ Turning (now sheet) (now owners) (now prices) (now groups) (now entitled) (now likes) cuts 0 ⌝ }
+    requires { ⌜ length (now scratch) ≡ scratchSize ⌝ }
     ensures { λ r. ⌜ Turned (now (sheet .entry)) (now (owners .entry)) (now (prices .entry)) (now (groups .entry)) (now (entitled .entry)) cuts 0
         r (now (owners .exit)) (now (prices .exit)) (now (groups .exit)) (now (entitled .exit)) ⌝ }
 {
     let n = sheet::agents(sheet);
-    let seen = look(sheet, owners, prices, groups, entitled, likes);
-    let reached = seen.reached;
+    let seen = look(sheet, owners, prices, groups, entitled, likes, scratch);
     if seen.giver < n {
         return hand_over(
             n,
@@ -128,10 +131,11 @@ pub fn step_2b(
         );
     }
     if seen.any {
+        let group = reached(n, scratch);
         let a = sheet::easy_weight(sheet);
         let b = sheet::difficult_weight(sheet);
-        cut_prices(owners, prices, entitled, reached, a, b);
-        cut_groups(groups, reached, cuts + 1);
+        cut_prices(owners, prices, entitled, group, a, b);
+        cut_groups(groups, group, cuts + 1);
         return Turn::Cut;
     }
     Turn::Ended
