@@ -14,6 +14,7 @@ use crate::run::Counts;
 use crate::run::run;
 use market::opening::open;
 use sheet::or_else;
+use totals::clear;
 
 // Each working list is made in a function of its own, so that its entries are one value where it is used.
 fn no_groups() -> [u8; model::MAX_AGENTS]
@@ -137,17 +138,6 @@ pub fn allocate_refusal(sheet: &[u8], owners: usize, prices: usize, scratch: usi
     let refusal = sheet::lent_refusal(m, owners);
     let refusal = or_else(refusal, sheet::lent_refusal(m, prices));
     or_else(refusal, sheet::lent_refusal(model::SCRATCH_SIZE, scratch))
-}
-
-// A book clears its scratch by this too, before its first sheet.
-pub fn clear(xs: &mut [u8])
-    ensures { λ r. ⌜ now (xs .exit) ≡ replicate (length (now (xs .entry))) 0 ⌝ }
-{
-    let mut i = 0;
-    while i < xs.len() {
-        xs[i] = 0;
-        i += 1;
-    }
 }
 
 // The share-out of what is not turned down, with or without a record of its moves.

@@ -121,7 +121,7 @@ pub fn allocate_book(
     if number != 0 {
         return turned_down(number);
     }
-    allocation::clear(scratch);
+    totals::clear(scratch);
     let mut numbers = pricebytes::for_chores();
     share_sheets(book, owners, prices, scratch, &mut numbers)
 }

@@ -1,9 +1,9 @@
-// Sums of all agents: price sums, in one pass over the chores, and the first sum that is below a limit or the least.
+// Sums of all agents: price sums, in one pass over the chores, and the first sum that is below a limit or the least. And lists of zeros.
 ghost use mathlib.Core.Bool.{true};
 ghost use mathlib.Core.Path.{_≡_};
 ghost use Prim.Native.Nat.{_≤_, _<_};
 ghost use lib.Dec.{ltb};
-ghost use lib.ListN.{getD, replicate};
+ghost use lib.ListN.{length, getD, replicate};
 ghost use Rattle.finite.specs.Search.{firstBelow, chosen};
 ghost use Rattle.model.specs.Limits.{maxAgents};
 ghost use Rattle.totals.specs.Totals.{Parts, TakenOff, Summing, Summed};
@@ -13,6 +13,17 @@ pub fn zeros() -> [u32; model::MAX_AGENTS]
     ensures { λ r. ⌜ r ≡ replicate maxAgents 0 ⌝ }
 {
     [0; model::MAX_AGENTS]
+}
+
+// For a lent scratch, which ends as zeros.
+pub fn clear(xs: &mut [u8])
+    ensures { λ r. ⌜ now (xs .exit) ≡ replicate (length (now (xs .entry))) 0 ⌝ }
+{
+    let mut i = 0;
+    while i < xs.len() {
+        xs[i] = 0;
+        i += 1;
+    }
 }
 
 // The dearest becomes what is left of the sum without it.

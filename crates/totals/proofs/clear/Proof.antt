@@ -1,4 +1,4 @@
--- `allocation::clear` meets its contract. The loop's invariant: the entries passed are 0.
+-- `totals::clear` meets its contract. The loop's invariant: the entries passed are 0.
 use Prim.Native.Nat.{_-_, _≤_}
 use mathlib.Core.Path.{_≡_, refl, sym, _∙_}
 use native.Mathlib.Omega.{arith}
@@ -6,8 +6,8 @@ use lib.ListN.{length, take, length-set}
 use borrow.Author.Needs.{needs}
 use Rattle.finite.specs.Lists.{tabulate}
 use Rattle.finite.proofs.Lists.{tab-const, fill-zero, fill-next, fill-done}
-use Rattle.allocation.proofs.clear.Statement.{statement}
-use Rattle.allocation.proofs.clear.Tie as tie
+use Rattle.totals.proofs.clear.Statement.{statement}
+use Rattle.totals.proofs.clear.Tie as tie
 
 abbrev Inv-loop : tie.InvT-loop
 Inv-loop xs₀ i₀ xs i = (i ≤ length xs₀) × (length xs ≡ length xs₀) × (take i xs ≡ tabulate i (λ _. 0))
