@@ -22,19 +22,26 @@ use Rattle.allocation.specs.Shared.{Shared, SharedWith}
 use Rattle.allocation.proofs.Running.{ended-shaped}
 
 -- nothing is turned down: the sheet breaks no rule, and what is lent has room
-pub record Fine (s : List ℕ) (owners prices : ℕ) : Type 0 where
+pub record Fine (s : List ℕ) (owners prices scratch : ℕ) : Type 0 where
   pub unbroken : sheetRefusal s ≡ 0
   pub valid : Valid s
   pub ownersRoom : choresOf s ≤ owners
   pub pricesRoom : choresOf s ≤ prices
+  pub scratchRoom : scratchSize ≤ scratch
 
-pub is-fine : (s : List ℕ) (owners prices scratch : ℕ) → allocateRefusal s owners prices scratch ≡ 0 → Fine s owners prices
+pub is-fine : (s : List ℕ) (owners prices scratch : ℕ) → allocateRefusal s owners prices scratch ≡ 0 → Fine s owners prices scratch
 unfolding allocateRefusal
 is-fine s owners prices scratch e =
     let one = or-else-zero (sheetRefusal s) (lentRefusal (choresOf s) owners orElse lentRefusal (choresOf s) prices orElse lentRefusal scratchSize scratch) e in
     let two = or-else-zero (lentRefusal (choresOf s) owners) (lentRefusal (choresOf s) prices orElse lentRefusal scratchSize scratch) (one .1) in
     let three = or-else-zero (lentRefusal (choresOf s) prices) (lentRefusal scratchSize scratch) (two .1) in
-    record { unbroken = one .0; valid = valid s (one .0); ownersRoom = lent-room (two .0); pricesRoom = lent-room (three .0) }
+    record {
+      unbroken = one .0;
+      valid = valid s (one .0);
+      ownersRoom = lent-room (two .0);
+      pricesRoom = lent-room (three .0);
+      scratchRoom = lent-room (three .1);
+    }
 
 -- the sheet alone decides, where there is room for any sheet
 pub sheet-decides : (s : List ℕ) (owners prices scratch : ℕ) → maxChores ≤ owners → maxChores ≤ prices → scratchSize ≤ scratch → allocateRefusal s owners prices scratch ≡ sheetRefusal s

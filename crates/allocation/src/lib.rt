@@ -2,7 +2,7 @@
 ghost use Prim.Native.Nat.{_≤_};
 ghost use mathlib.Core.Path.{_≡_};
 ghost use lib.ListN.{length, replicate};
-ghost use Rattle.model.specs.Limits.{maxAgents, maxChores};
+ghost use Rattle.model.specs.Limits.{maxAgents, maxChores, scratchSize};
 ghost use Rattle.model.specs.Sheet.{choresOf};
 ghost use Rattle.model.specs.Refusals.{allocateRefusal};
 ghost use Rattle.model.specs.Promises.{Allocated};
@@ -58,15 +58,26 @@ fn share_with(
     groups: &mut [u8],
     entitled: &mut [u8],
     likes: &mut [u32],
+    scratch: &mut [u8],
     record: &mut [u8],
 ) -> Counts
     requires { ⌜ Sharing (now sheet) (now owners) (now prices) × Working (now sheet) (now groups) (now entitled) (now likes) ⌝ }
+    requires { ⌜ length (now scratch) ≡ scratchSize ⌝ }
     ensures { λ r. ⌜ Shared (now (sheet .entry)) (now (owners .exit)) (now (prices .exit)) (now («record» .entry)) (now («record» .exit)) (r .moves) (r .cuts) ⌝ }
 {
     let n = sheet::agents(sheet);
     let m = sheet::chores(sheet);
     open(sheet, n, m, owners, prices, likes);
-    run(sheet, owners, prices, groups, entitled, likes, record)
+    run(
+        sheet,
+        owners,
+        prices,
+        groups,
+        entitled,
+        likes,
+        scratch,
+        record,
+    )
 }
 
 // With lists that are long enough: what is behind the entries that the sheet asks for stays as it is.
@@ -76,9 +87,11 @@ fn share_in(
     prices: &mut [u32],
     entitled: &mut [u8],
     likes: &mut [u32],
+    scratch: &mut [u8],
     record: &mut [u8],
 ) -> Counts
     requires { ⌜ Sharing (now sheet) (now owners) (now prices) × Long (now sheet) (now entitled) (now likes) ⌝ }
+    requires { ⌜ length (now scratch) ≡ scratchSize ⌝ }
     ensures { λ r. ⌜ Shared (now (sheet .entry)) (now (owners .exit)) (now (prices .exit)) (now («record» .entry)) (now («record» .exit)) (r .moves) (r .cuts) ⌝ }
 {
     let n = sheet::agents(sheet);
@@ -91,39 +104,77 @@ fn share_in(
         &mut groups[0..n],
         &mut entitled[0..m],
         &mut likes[0..m],
+        scratch,
         record,
     )
 }
 
-fn share_few(sheet: &[u8], owners: &mut [u8], prices: &mut [u32], record: &mut [u8]) -> Counts
+fn share_few(
+    sheet: &[u8],
+    owners: &mut [u8],
+    prices: &mut [u32],
+    scratch: &mut [u8],
+    record: &mut [u8],
+) -> Counts
     requires { ⌜ Sharing (now sheet) (now owners) (now prices) ⌝ }
     requires { ⌜ choresOf (now sheet) ≤ few ⌝ }
+    requires { ⌜ length (now scratch) ≡ scratchSize ⌝ }
     ensures { λ r. ⌜ Shared (now (sheet .entry)) (now (owners .exit)) (now (prices .exit)) (now («record» .entry)) (now («record» .exit)) (r .moves) (r .cuts) ⌝ }
 {
     let mut entitled = few_entitled();
     let mut likes = few_likes();
-    share_in(sheet, owners, prices, &mut entitled, &mut likes, record)
+    share_in(
+        sheet,
+        owners,
+        prices,
+        &mut entitled,
+        &mut likes,
+        scratch,
+        record,
+    )
 }
 
-fn share_many(sheet: &[u8], owners: &mut [u8], prices: &mut [u32], record: &mut [u8]) -> Counts
+fn share_many(
+    sheet: &[u8],
+    owners: &mut [u8],
+    prices: &mut [u32],
+    scratch: &mut [u8],
+    record: &mut [u8],
+) -> Counts
     requires { ⌜ Sharing (now sheet) (now owners) (now prices) ⌝ }
+    requires { ⌜ length (now scratch) ≡ scratchSize ⌝ }
     ensures { λ r. ⌜ Shared (now (sheet .entry)) (now (owners .exit)) (now (prices .exit)) (now («record» .entry)) (now («record» .exit)) (r .moves) (r .cuts) ⌝ }
 {
     let mut entitled = none_entitled();
     let mut likes = no_likes();
-    share_in(sheet, owners, prices, &mut entitled, &mut likes, record)
+    share_in(
+        sheet,
+        owners,
+        prices,
+        &mut entitled,
+        &mut likes,
+        scratch,
+        record,
+    )
 }
 
 // The share-out of a sheet that breaks no rule, into lists of one entry for each chore. With few chores it is over in the time that it takes to
 // clear lists for many.
-pub fn share(sheet: &[u8], owners: &mut [u8], prices: &mut [u32], record: &mut [u8]) -> Counts
+pub fn share(
+    sheet: &[u8],
+    owners: &mut [u8],
+    prices: &mut [u32],
+    scratch: &mut [u8],
+    record: &mut [u8],
+) -> Counts
     requires { ⌜ Sharing (now sheet) (now owners) (now prices) ⌝ }
+    requires { ⌜ length (now scratch) ≡ scratchSize ⌝ }
     ensures { λ r. ⌜ Shared (now (sheet .entry)) (now (owners .exit)) (now (prices .exit)) (now («record» .entry)) (now («record» .exit)) (r .moves) (r .cuts) ⌝ }
 {
     if sheet::chores(sheet) <= FEW {
-        return share_few(sheet, owners, prices, record);
+        return share_few(sheet, owners, prices, scratch, record);
     }
-    share_many(sheet, owners, prices, record)
+    share_many(sheet, owners, prices, scratch, record)
 }
 
 // The number that a share-out is turned down with, 0 where it is not.
@@ -152,7 +203,13 @@ pub fn share_out(
     ensures { λ r. ⌜ SharedWith (now (sheet .entry)) (now (owners .entry)) (now (prices .entry)) (now (scratch .entry)) (now («record» .entry)) (now (owners .exit)) (now (prices .exit)) (now (scratch .exit)) (now («record» .exit)) r ⌝ }
 {
     let m = sheet::chores(sheet);
-    let counts = share(sheet, &mut owners[0..m], &mut prices[0..m], record);
+    let counts = share(
+        sheet,
+        &mut owners[0..m],
+        &mut prices[0..m],
+        &mut scratch[0..model::SCRATCH_SIZE],
+        record,
+    );
     clear(scratch);
     let moves = counts.moves;
     let cuts = counts.cuts;

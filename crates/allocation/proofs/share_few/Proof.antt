@@ -18,9 +18,10 @@ slice-aggregate-share-in-2 c = search needs
 
 share-in-requires : tie.Need-share-in-requires
 share-in-requires c κs =
-    let likes = c .before .before .before .before .before in
-    let start = likes .before .before .before .before .before .before in
-    (start .pre .0, long-of (start .args .sheet .now) (start .pre .1) (likes .before .few-entitled .ensures) (likes .few-likes .ensures))
+    let likes = c .before .before .before .before .before .before in
+    let start = likes .before .before .before .before .before .before .before in
+    let long = long-of (start .args .sheet .now) (start .pre .1 .0) (likes .before .few-entitled .ensures) (likes .few-likes .ensures) in
+    ((start .pre .0, long), start .pre .1 .1)
 
 same-length : tie.Need-same-length
 same-length c = search needs
@@ -30,6 +31,9 @@ same-length-2 c = search needs
 
 same-length-3 : tie.Need-same-length-3
 same-length-3 c = search needs
+
+same-length-4 : tie.Need-same-length-4
+same-length-4 c = search needs
 
 returns : tie.Need-returns
 returns c = search needs
@@ -46,4 +50,5 @@ share-few-spec =
     same-length
     same-length-2
     same-length-3
+    same-length-4
     returns)

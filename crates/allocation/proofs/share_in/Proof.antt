@@ -43,18 +43,21 @@ part-share-with-end-2 c = search needs
 
 share-with-requires : tie.Need-share-with-requires
 share-with-requires c κs =
-    let groups = c .before .before .before .before .before .before in
+    let groups = c .before .before .before .before .before .before .before in
     let chores = groups .before in
-    let start = chores .before .before .before .before .before .before .before .before in
-    let S = start .pre .0 in
-    let L = start .pre .1 in
+    let start = chores .before .before .before .before .before .before .before .before .before in
+    let S = start .pre .0 .0 in
+    let L = start .pre .0 .1 in
     let m-is = chores .chores .ensures .is in (
-      S,
-      record {
-        noGroups = first-of (groups .no-groups .ensures) (chores .before .agents .ensures .is) (S .valid .agentsFit);
-        noneEntitled = first-of (L .noneEntitled) m-is (L .entitledFit);
-        likesSized = first-sized (start .args .likes .now) refl m-is (L .likesFit);
-      },
+      (
+        S,
+        record {
+          noGroups = first-of (groups .no-groups .ensures) (chores .before .agents .ensures .is) (S .valid .agentsFit);
+          noneEntitled = first-of (L .noneEntitled) m-is (L .entitledFit);
+          likesSized = first-sized (start .args .likes .now) refl m-is (L .likesFit);
+        },
+      ),
+      start .pre .1,
     )
 
 same-length : tie.Need-same-length
@@ -71,6 +74,9 @@ same-length-4 c = search needs
 
 same-length-5 : tie.Need-same-length-5
 same-length-5 c = search needs
+
+same-length-6 : tie.Need-same-length-6
+same-length-6 c = search needs
 
 returns : tie.Need-returns
 returns c = search needs
@@ -97,4 +103,5 @@ share-in-spec =
     same-length-3
     same-length-4
     same-length-5
+    same-length-6
     returns)

@@ -18,9 +18,11 @@ slice-aggregate-share-in-2 c = search needs
 
 share-in-requires : tie.Need-share-in-requires
 share-in-requires c κs =
-    let likes = c .before .before .before .before .before in
-    let start = likes .before .before .before .before .before .before in
-    (start .pre, long-of (start .args .sheet .now) (start .pre .valid .choresFit) (likes .before .none-entitled .ensures) (likes .no-likes .ensures))
+    let likes = c .before .before .before .before .before .before in
+    let start = likes .before .before .before .before .before .before .before in
+    let S = start .pre .0 in
+    let long = long-of (start .args .sheet .now) (S .valid .choresFit) (likes .before .none-entitled .ensures) (likes .no-likes .ensures) in
+    ((S, long), start .pre .1)
 
 same-length : tie.Need-same-length
 same-length c = search needs
@@ -30,6 +32,9 @@ same-length-2 c = search needs
 
 same-length-3 : tie.Need-same-length-3
 same-length-3 c = search needs
+
+same-length-4 : tie.Need-same-length-4
+same-length-4 c = search needs
 
 returns : tie.Need-returns
 returns c = search needs
@@ -46,4 +51,5 @@ share-many-spec =
     same-length
     same-length-2
     same-length-3
+    same-length-4
     returns)

@@ -6,7 +6,7 @@ use Rattle.allocation.proofs.share_with.Tie as tie
 
 -- from the second call back to the start
 abbrev start : tie.After-chores → tie.Start
-start c = c .before .before .before .before .before .before .before .before .before
+start c = c .before .before .before .before .before .before .before .before .before .before
 
 agents-requires : tie.Need-agents-requires
 agents-requires c κs = search needs
@@ -17,15 +17,16 @@ chores-requires c κs = search needs
 open-requires : tie.Need-open-requires
 open-requires c κs =
     let read = c .before .before .before in
-    let pre = start read .pre in
+    let pre = start read .pre .0 in
     opening-of (pre .0) (pre .1) (read .before .agents .ensures .is) (read .chores .ensures .is)
 
 run-requires : tie.Need-run-requires
 run-requires c κs =
-    let opened = c .before .before .before .before .before .before .before .before .before .before .before .before in
+    let opened = c .before .before .before .before .before .before .before .before .before .before .before .before .before in
     let begun = start (opened .before .before .before .before) in
-    let pre = begun .pre in
-    (kit-of (pre .0) (pre .1) (opened .«open» .ensures), begins (pre .0) (pre .1) (opened .«open» .ensures) (begun .args .«record» .now))
+    let pre = begun .pre .0 in
+    let running = begins (pre .0) (pre .1) (opened .«open» .ensures) (begun .args .«record» .now) in
+    ((kit-of (pre .0) (pre .1) (opened .«open» .ensures), running), begun .pre .1)
 
 same-length : tie.Need-same-length
 same-length c = search needs
@@ -45,9 +46,12 @@ same-length-5 c = search needs
 same-length-6 : tie.Need-same-length-6
 same-length-6 c = search needs
 
+same-length-7 : tie.Need-same-length-7
+same-length-7 c = search needs
+
 returns : tie.Need-returns
 returns c =
-    let ended = c .before .before .before .before .before .before .before .before .before .before in
+    let ended = c .before .before .before .before .before .before .before .before .before .before .before .before in
     record { groups = _; entitled = _; ended = ended .run .ensures }
 
 pub share-with-spec : {M : Type 1} → statement M
@@ -64,4 +68,5 @@ share-with-spec =
     same-length-4
     same-length-5
     same-length-6
+    same-length-7
     returns)

@@ -13,6 +13,9 @@ own-owners-requires c κs = search needs
 own-prices-requires : tie.Need-own-prices-requires
 own-prices-requires c κs = search needs
 
+own-scratch-requires : tie.Need-own-scratch-requires
+own-scratch-requires c κs = search needs
+
 sub-share : tie.Need-sub-share
 sub-share c = search needs
 
@@ -34,13 +37,16 @@ part-prices-end c = search needs
 slice-aggregate-share : tie.Need-slice-aggregate-share
 slice-aggregate-share c = search needs
 
+slice-aggregate-share-2 : tie.Need-slice-aggregate-share-2
+slice-aggregate-share-2 c = search needs
+
 share-requires : tie.Need-share-requires
-share-requires c κs = search needs
+share-requires c κs = (search needs, c .before .before .before .before .own-scratch .ensures)
 
 returns : tie.Need-returns
 returns c =
-    let ran = c .before .before .before in
-    let start = ran .before .before .before .before .before .before .before .before in
+    let ran = c .before .before .before .before in
+    let start = ran .before .before .before .before .before .before .before .before .before .before in
     counts-them (start .pre) (ran .share .ensures)
 
 pub count-moves-spec : {M : Type 1} → statement M
@@ -50,6 +56,7 @@ count-moves-spec =
     chores-requires
     own-owners-requires
     own-prices-requires
+    own-scratch-requires
     sub-share
     part-owners-start
     part-owners-end
@@ -57,5 +64,6 @@ count-moves-spec =
     part-prices-start
     part-prices-end
     slice-aggregate-share
+    slice-aggregate-share-2
     share-requires
     returns)

@@ -1,7 +1,10 @@
--- `allocation::run::run` meets its contract. Before each turn: the run has come to the state that the lists and counters hold.
-use mathlib.Core.Path.{refl}
+-- `allocation::run::run` meets its contract. Before each turn: the run has come to the state that the lists and counters hold, and
+-- the scratch has its size.
+use mathlib.Core.Path.{_≡_, refl}
 use native.Mathlib.Omega.{arith}
+use lib.ListN.{length}
 use borrow.Author.Needs.{needs}
+use Rattle.model.specs.Limits.{scratchSize}
 use Rattle.model.specs.Sheet.{asRead}
 use Rattle.model.specs.Record.{handsOver}
 use Rattle.algorithm.specs.Reached.{stepNumber, Shaped}
@@ -12,34 +15,34 @@ use Rattle.allocation.proofs.run.run.Statement.{statement}
 use Rattle.allocation.proofs.run.run.Tie as tie
 
 abbrev Inv-loop : tie.InvT-loop
-Inv-loop sheet owners₀ prices₀ groups₀ entitled₀ likes record₀ moves₀ cuts₀ stage₀ owners prices groups entitled «record» moves cuts stage =
-    Kit sheet likes × Running sheet owners prices groups entitled record₀ «record» moves cuts stage
+Inv-loop sheet owners₀ prices₀ groups₀ entitled₀ likes scratch₀ record₀ _ _ _ owners prices groups entitled scratch «record» moves cuts stage =
+    Kit sheet likes × Running sheet owners prices groups entitled record₀ «record» moves cuts stage × (length scratch ≡ scratchSize)
 
 abbrev μ-loop : tie.MeasureT-loop
-μ-loop sheet owners₀ prices₀ groups₀ entitled₀ likes record₀ moves₀ cuts₀ stage₀ owners prices groups entitled «record» moves cuts stage =
+μ-loop sheet owners₀ prices₀ groups₀ entitled₀ likes scratch₀ record₀ _ _ _ owners prices groups entitled scratch «record» moves cuts stage =
     stepNumber (asRead sheet) (stateOf owners prices groups entitled moves cuts stage)
 
 -- back from the match on a turn to the turn, from there to the loop, and to the start
-abbrev turnAt : tie.After-slice-known9 Inv-loop μ-loop → tie.After-take-turn Inv-loop μ-loop
-turnAt c = c .before .before .before .before .before .before .before .before
+abbrev turnAt : tie.After-slice-known11 Inv-loop μ-loop → tie.After-take-turn Inv-loop μ-loop
+turnAt c = c .before .before .before .before .before .before .before .before .before .before
 
 abbrev loopAt : tie.After-take-turn Inv-loop μ-loop → tie.At-loop Inv-loop μ-loop
-loopAt c = c .before .before .before .before .before
+loopAt c = c .before .before .before .before .before .before
 
 abbrev start : tie.At-loop Inv-loop μ-loop → tie.Start Inv-loop μ-loop
-start c = c .before .before .before .before .before .before .before .before
+start c = c .before .before .before .before .before .before .before .before .before
 
 -- a move is told, and noted
-abbrev toldAt : tie.After-slice-known10 Inv-loop μ-loop → tie.After-turn Inv-loop μ-loop
+abbrev toldAt : tie.After-slice-known12 Inv-loop μ-loop → tie.After-turn Inv-loop μ-loop
 toldAt c = c .before .before .before .before .before
 
 loop-holds : tie.Need-loop-holds Inv-loop μ-loop
-loop-holds c = c .before .before .before .before .before .before .before .pre
+loop-holds c = let pre = c .before .before .before .before .before .before .before .before .pre in (pre .0 .0, pre .0 .1, pre .1)
 
 take-turn-requires : tie.Need-take-turn-requires Inv-loop μ-loop
 take-turn-requires c κs =
-    let inv = c .before .before .before .before .loop .inv in
-    turning (inv .0 .valid) (inv .1) (inv .0)
+    let inv = c .before .before .before .before .before .loop .inv in
+    (turning (inv .0 .valid) (inv .1) (inv .0), inv .2)
 
 enum-known-turn : tie.Need-enum-known-turn Inv-loop μ-loop
 enum-known-turn c = search needs
@@ -69,7 +72,7 @@ loop-again c =
     let turn = turnAt (told .before .before) in
     let inv = loopAt turn .loop .inv in
     let noted = notes (inv .0 .valid) (inv .1) (turn .take-turn .ensures) (told .turn .given .1) refl (c .before .before .note .ensures) in
-    (inv .0, runs-on (inv .0 .valid) (inv .1) (turn .take-turn .ensures) (told .turn .given .1) refl noted)
+    (inv .0, runs-on (inv .0 .valid) (inv .1) (turn .take-turn .ensures) (told .turn .given .1) refl noted, search needs)
 
 enum-told : tie.Need-enum-told Inv-loop μ-loop
 enum-told c = search needs
@@ -91,7 +94,8 @@ unfolding handsOver
 loop-again-2 c =
     let turn = turnAt (c .before .before) in
     let inv = loopAt turn .loop .inv in
-    (inv .0, runs-on (inv .0 .valid) (inv .1) (turn .take-turn .ensures) (c .enum-told .given .1) refl (notes-none (inv .0 .valid) (inv .1) (turn .take-turn .ensures) (c .enum-told .given .1) refl))
+    let noted = notes-none (inv .0 .valid) (inv .1) (turn .take-turn .ensures) (c .enum-told .given .1) refl in
+    (inv .0, runs-on (inv .0 .valid) (inv .1) (turn .take-turn .ensures) (c .enum-told .given .1) refl noted, search needs)
 
 enum-told-2 : tie.Need-enum-told-2 Inv-loop μ-loop
 enum-told-2 c = search needs
@@ -112,7 +116,8 @@ unfolding handsOver
 loop-again-3 c =
     let turn = turnAt (c .before .before) in
     let inv = loopAt turn .loop .inv in
-    (inv .0, runs-on (inv .0 .valid) (inv .1) (turn .take-turn .ensures) (c .enum-told2 .given .1) refl (notes-none (inv .0 .valid) (inv .1) (turn .take-turn .ensures) (c .enum-told2 .given .1) refl))
+    let noted = notes-none (inv .0 .valid) (inv .1) (turn .take-turn .ensures) (c .enum-told2 .given .1) refl in
+    (inv .0, runs-on (inv .0 .valid) (inv .1) (turn .take-turn .ensures) (c .enum-told2 .given .1) refl noted, search needs)
 
 enum-told-3 : tie.Need-enum-told-3 Inv-loop μ-loop
 enum-told-3 c = search needs
@@ -122,7 +127,7 @@ shaped : (c : tie.At-loop Inv-loop μ-loop) → let loop = c .loop in Shaped (as
 shaped c = state-reached (c .loop .inv .0 .valid) (c .loop .inv .1) .shaped
 
 shaped-first : (c : tie.At-loop Inv-loop μ-loop) → let args = start c .args in Shaped (asRead (args .sheet .now)) (stateOf (args .owners .now) (args .prices .now) (args .groups .now) (args .entitled .now) 0 0 0)
-shaped-first c = let pre = start c .pre in state-reached (pre .0 .valid) (pre .1) .shaped
+shaped-first c = let pre = start c .pre .0 in state-reached (pre .0 .valid) (pre .1) .shaped
 
 same-length : tie.Need-same-length Inv-loop μ-loop
 same-length c = let loop = loopAt (turnAt (c .before .before)) in search (needs, shaped loop .owners, shaped-first loop .owners)
@@ -137,7 +142,10 @@ same-length-4 : tie.Need-same-length-4 Inv-loop μ-loop
 same-length-4 c = let loop = loopAt (turnAt (c .before .before)) in search (needs, shaped loop .entitled, shaped-first loop .entitled)
 
 same-length-5 : tie.Need-same-length-5 Inv-loop μ-loop
-same-length-5 c = let loop = loopAt (turnAt (c .before .before)) .loop in search (needs, loop .inv .1 .noted .sized)
+same-length-5 c = search needs
+
+same-length-6 : tie.Need-same-length-6 Inv-loop μ-loop
+same-length-6 c = let loop = loopAt (turnAt (c .before .before)) .loop in search (needs, loop .inv .1 .noted .sized)
 
 returns : tie.Need-returns Inv-loop μ-loop
 unfolding handsOver
@@ -173,4 +181,5 @@ run-spec =
     same-length-3
     same-length-4
     same-length-5
+    same-length-6
     returns)

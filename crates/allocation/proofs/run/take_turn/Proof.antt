@@ -6,9 +6,9 @@ use Rattle.allocation.proofs.run.take_turn.Tie as tie
 
 step-2b-requires : tie.Need-step-2b-requires
 step-2b-requires c κs =
-    let test = c .before .before .before .before in
-    let start = test .before .before .before .before .before .before .before in
-    rw (test .if1 .taken) at (start .pre)
+    let test = c .before .before .before .before .before in
+    let start = test .before .before .before .before .before .before .before .before in
+    (rw (test .if1 .taken) at (start .pre .0), start .pre .1)
 
 same-length : tie.Need-same-length
 same-length c = search needs
@@ -22,20 +22,20 @@ same-length-3 c = search needs
 same-length-4 : tie.Need-same-length-4
 same-length-4 c = search needs
 
+same-length-5 : tie.Need-same-length-5
+same-length-5 c = search needs
+
 returns : tie.Need-returns
 returns c =
-    let turn = c .before .before .before .before .before .before .before .before in
-    let test = turn .before .before .before .before .before in
+    let turn = c .before .before .before .before .before .before .before .before .before .before in
+    let test = turn .before .before .before .before .before .before in
     rw (test .if1 .taken) (turn .step-2b .ensures)
 
 step-2a-requires : tie.Need-step-2a-requires
 step-2a-requires c κs =
     let test = c .before .before .before .before in
-    let start = test .before .before .before .before .before .before .before in
-    (start .pre, omega arith)
-
-same-length-5 : tie.Need-same-length-5
-same-length-5 c = search needs
+    let start = test .before .before .before .before .before .before .before .before in
+    (start .pre .0, omega arith)
 
 same-length-6 : tie.Need-same-length-6
 same-length-6 c = search needs
@@ -45,6 +45,9 @@ same-length-7 c = search needs
 
 same-length-8 : tie.Need-same-length-8
 same-length-8 c = search needs
+
+same-length-9 : tie.Need-same-length-9
+same-length-9 c = search needs
 
 returns-2 : tie.Need-returns-2
 returns-2 c = c .before .before .step-2a .ensures
@@ -58,10 +61,11 @@ take-turn-spec =
     same-length-2
     same-length-3
     same-length-4
+    same-length-5
     returns
     step-2a-requires
-    same-length-5
     same-length-6
     same-length-7
     same-length-8
+    same-length-9
     returns-2)
