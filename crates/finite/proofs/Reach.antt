@@ -7,7 +7,7 @@ use native.Mathlib.Omega.{arith}
 use Rattle.finite.specs.Sums.{countTo}
 use Rattle.finite.specs.Search.{anyBelow}
 use Rattle.finite.specs.Reach.{reach}
-use Rattle.finite.proofs.Tests.{by-test, clash, bool-eq, and-elim, and-intro, or-cases, or-left, or-right}
+use Rattle.finite.proofs.Tests.{by-test, clash, and-elim, and-intro, or-cases, or-left, or-right}
 use Rattle.finite.proofs.Below.{by-less}
 use Rattle.finite.proofs.Search.{any-elim, any-intro}
 use Rattle.finite.proofs.Counts.{count-le, count-strict, count-point}
@@ -96,12 +96,3 @@ module _ (n : ℕ) (start : ℕ → Bool) (link : ℕ → ℕ → Bool) where
   -- n rounds reach all that any number of rounds does
   pub reach-all : (t i : ℕ) → i < n → reach n start link t i ≡ true → reach n start link n i ≡ true
   reach-all = reach-ind (λ i. reach n start link n i ≡ true) (λ i l. reach-start n i) reach-link
-
-  -- a round that adds nothing is followed by none that does
-  pub reach-still : (t : ℕ) → ((i : ℕ) → i < n → reach n start link (suc t) i ≡ true → reach n start link t i ≡ true) → (u i : ℕ) → i < n → reach n start link u i ≡ true → reach n start link t i ≡ true
-  reach-still t still =
-      reach-ind (λ i. reach n start link t i ≡ true) (λ i l. reach-start t i)
-      (λ i j l k h e. still i l (reach-step t i j k h e))
-
-  pub reach-still-eq : (t : ℕ) → ((i : ℕ) → i < n → reach n start link (suc t) i ≡ true → reach n start link t i ≡ true) → (i : ℕ) → i < n → reach n start link t i ≡ reach n start link n i
-  reach-still-eq t still i l = bool-eq (reach-all t i l) (reach-still t still n i l)

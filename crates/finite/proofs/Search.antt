@@ -2,7 +2,7 @@
 -- Assumes nothing.
 use Prim.Native.Nat.{ℕ, zero, suc, _+_, _≤_, _<_}
 use mathlib.Core.Bool.{Bool, true, false, _&&_, _||_}
-use mathlib.Core.Path.{_≡_, refl, sym, ap, ap₂, _∙_}
+use mathlib.Core.Path.{_≡_, refl, sym, ap, ap₂}
 use native.Mathlib.Nat.{le-refl, le-antisymm, lt-of-lt-of-le, lt-of-le-of-lt}
 use native.Mathlib.Numerals.{add-one}
 use native.Mathlib.Omega.{arith}
@@ -88,9 +88,6 @@ unfolding allBelow
 all-cong zero h = refl
 all-cong (suc k) h = ap₂ _&&_ (all-cong k (lower h)) (h k (le-refl _))
 
-pub all-fewer : {n m : ℕ} (t : ℕ → Bool) → n ≤ m → allBelow m t ≡ true → allBelow n t ≡ true
-all-fewer {n} {m} t le e = all-intro n t (λ i l. all-elim m t e i (lt-of-lt-of-le l le))
-
 -- firstBelow
 
 pub first-zero : (t : ℕ → Bool) → firstBelow 0 t ≡ 0
@@ -147,14 +144,6 @@ first-unique {n} {t} {r} f =
     by-less (firstBelow n t) r
     (λ l. absurd (clash (first-passes n t (lt-of-lt-of-le l (omega arith))) (f .before (firstBelow n t) l)))
     (λ l. le-antisymm (first-least n t r (f .passes)) l)
-
-pub First-cong : {n : ℕ} {t u : ℕ → Bool} {r : ℕ} → ((i : ℕ) → i < n → t i ≡ u i) → First n t r → First n u r
-First-cong {r = r} h f =
-    record {
-      below = f .below;
-      passes = sym (h r (f .below)) ∙ f .passes;
-      before = λ i l. sym (h i (omega arith)) ∙ f .before i l;
-    }
 
 -- none found: all fail
 pub first-none : (n : ℕ) (t : ℕ → Bool) → firstBelow n t ≡ n → (i : ℕ) → i < n → t i ≡ false

@@ -24,7 +24,7 @@ use Rattle.model.specs.Step2b.{leastSum, above, supplies, ofLeastSum, within, r
 use Rattle.algorithm.proofs.UpToOne.{up-le}
 use Rattle.algorithm.proofs.Rings.{of-least, within-zero, within-more, at-within, in-ring, distance-said, due-found, is-due}
 use Rattle.rings.specs.Line.{ringsBefore, lineTo, inLine, Lined, isReached, standsAt, Started}
-use Rattle.rings.specs.Search.{inNextRing, Searching, Searched}
+use Rattle.rings.specs.Search.{Searching, Searched}
 use Rattle.rings.proofs.InLine.{in-before, in-here, in-cases, line-next, line-zero, line-skip, lined-all, lined-skip, lined-next, longer, lined-take, ring-stands, ring-empty}
 use Rattle.rings.proofs.Started.{unreached-by, reached-by, started-ended, started-lined}
 
@@ -33,6 +33,10 @@ and-swap true true = refl
 and-swap true false = refl
 and-swap false true = refl
 and-swap false false = refl
+
+-- agent i is not reached and has an offer for somebody of the ring
+unfoldable pub inNextRing : List ℕ → ℕ → List ℕ → ℕ → Bool
+inNextRing offers ring scratch i = not (isReached scratch i) && not (eqb (bitAnd (getD offers i 0) ring) 0)
 
 -- The search has come to agent g of ring t, and nobody in line is above the least sum.
 pub record Ringed (I : Instance) (x p : ℕ → ℕ) (t g end : ℕ) (lent scratch : List ℕ) : Type 0 where
@@ -219,7 +223,7 @@ module _ {I : Instance} {x p : ℕ → ℕ} {offers sums ups : List ℕ} {least 
               due = λ h. is-due I x p (S .some) (suc t) i below l (at-within I x p (suc t) i now-here) (ltb-true _ _ found-above);
               gives = λ h. sym found-giver;
               takes = λ h. let e : ring2b I x p - 1 ≡ t = omega (arith, found-ring) in rw (e, found-giver) (set-cong (λ j h. and-swap (supplies I x p i j) (atDistance I x p t j)) taken-at);
-              some = λ h. rw (found-ring, found-giver) line-on;
+              upToGiver = λ h. rw (found-ring, found-giver) line-on;
               none = λ q. absurd (omega arith);
               all = λ q. absurd (omega arith);
             }
@@ -256,7 +260,7 @@ module _ {I : Instance} {x p : ℕ → ℕ} {offers sums ups : List ℕ} {least 
             due = λ h. absurd (omega arith);
             gives = λ h. absurd (omega arith);
             takes = λ h. absurd (omega arith);
-            some = λ h. absurd (omega arith);
+            upToGiver = λ h. absurd (omega arith);
             none = λ q. none-due;
             all = λ q. lined-all (I .n) (atDistance I x p) t none-on (I .n) (I .n) (le-refl _) low (R .lined);
           }

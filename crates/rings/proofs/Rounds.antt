@@ -18,10 +18,10 @@ use Rattle.model.specs.Limits.{maxAgents}
 use Rattle.model.specs.Instance.{Instance}
 use Rattle.model.specs.Step2b.{atDistance}
 use Rattle.rings.specs.Line.{ringsBefore, isReached, standsAt, Filled, Started}
-use Rattle.rings.specs.Search.{inNextRing, Searching, Answered}
+use Rattle.rings.specs.Search.{Searching, Answered}
 use Rattle.rings.proofs.InLine.{line-next}
 use Rattle.rings.proofs.Started.{unreached-by, filled-most, filled-room, filled-take}
-use Rattle.rings.proofs.Ringed.{Ringed, ringed-start, ringed-next, ringed-skip, ringed-take, ringed-found, ringed-ring, ringed-ended}
+use Rattle.rings.proofs.Ringed.{inNextRing, Ringed, ringed-start, ringed-next, ringed-skip, ringed-take, ringed-found, ringed-ring, ringed-ended}
 
 -- the search has come to agent g of ring t
 pub record Come (n : ℕ) (offers sums ups : List ℕ) (least t g end : ℕ) (lent scratch : List ℕ) : Type 0 where

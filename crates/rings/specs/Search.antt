@@ -1,17 +1,15 @@
 -- The search of 2b over offers.
 use Prim.Native.Nat.{ℕ, suc, _-_, _≤_, _<_}
-use mathlib.Core.Bool.{Bool, true, false, not, _&&_}
+use mathlib.Core.Bool.{true, false, _&&_}
 use mathlib.Core.List.{List}
 use mathlib.Core.Path.{_≡_}
-use lib.Bits.{bitAnd}
-use lib.Dec.{eqb}
 use lib.ListN.{length, getD}
 use Rattle.finite.specs.Bits.{SetOf}
 use Rattle.model.specs.Limits.{maxAgents, scratchSize}
 use Rattle.model.specs.Instance.{Instance}
 use Rattle.model.specs.Prices.{priceSum, priceUpToOne}
 use Rattle.model.specs.Step2b.{leastSum, supplies, atDistance, ring2b, due2b, giver2b}
-use Rattle.rings.specs.Line.{Lined, isReached}
+use Rattle.rings.specs.Line.{Lined}
 
 -- safety: an entry for each of n agents, and the scratch
 pub record Lists (n : ℕ) (offers sums ups scratch : List ℕ) : Type 0 where
@@ -20,10 +18,6 @@ pub record Lists (n : ℕ) (offers sums ups scratch : List ℕ) : Type 0 where
   pub sumsFit : n ≤ length sums
   pub upsFit : n ≤ length ups
   pub scratchSized : length scratch ≡ scratchSize
-
--- agent i is not reached and has an offer for somebody of the ring
-unfoldable pub inNextRing : List ℕ → ℕ → List ℕ → ℕ → Bool
-inNextRing offers ring scratch i = not (isReached scratch i) && not (eqb (bitAnd (getD offers i 0) ring) 0)
 
 -- What the search starts from, in the market I with owners x and prices p.
 pub record Searching (I : Instance) (x p : ℕ → ℕ) (offers sums ups : List ℕ) (least : ℕ) : Type 0 where
@@ -40,7 +34,7 @@ pub record Searched (I : Instance) (x p : ℕ → ℕ) (giver takers : ℕ) (len
   pub due : giver < I .n → due2b I x p ≡ true
   pub gives : giver < I .n → giver ≡ giver2b I x p
   pub takes : giver < I .n → SetOf (I .n) takers (λ j. atDistance I x p (ring2b I x p - 1) j && supplies I x p (giver2b I x p) j)
-  pub some : giver < I .n → Lined (I .n) (atDistance I x p) (ring2b I x p) (suc (giver2b I x p)) lent scratch
+  pub upToGiver : giver < I .n → Lined (I .n) (atDistance I x p) (ring2b I x p) (suc (giver2b I x p)) lent scratch
   pub none : giver ≡ I .n → due2b I x p ≡ false
   pub all : giver ≡ I .n → Lined (I .n) (atDistance I x p) (I .n) 0 lent scratch
 
