@@ -3,7 +3,7 @@ use text::lines;
 ghost use Prim.Native.Nat.{_≤_};
 ghost use mathlib.Core.Path.{_≡_};
 ghost use lib.ListN.{length};
-ghost use Rattle.model.specs.Limits.{maxChores, scratchSize};
+ghost use Rattle.model.specs.Limits.{maxChores};
 ghost use Rattle.pages.specs.Printer.{toPrint, lastText};
 ghost use Rattle.pages.specs.Printing.{lastMost, Shows};
 
@@ -30,12 +30,6 @@ pub fn no_prices() -> [u32; model::MAX_CHORES]
     ensures { λ r. ⌜ maxChores ≡ length r ⌝ }
 {
     [0; model::MAX_CHORES]
-}
-
-pub fn no_scratch() -> [u8; model::SCRATCH_SIZE]
-    ensures { λ r. ⌜ scratchSize ≡ length r ⌝ }
-{
-    [0; model::SCRATCH_SIZE]
 }
 
 // How many sheets there are to print: none of a refused book.

@@ -1,7 +1,7 @@
 // The share-out with a record of its moves.
 ghost use mathlib.Core.Path.{_≡_};
 ghost use lib.ListN.{length};
-ghost use Rattle.model.specs.Limits.{maxChores, scratchSize};
+ghost use Rattle.model.specs.Limits.{maxChores};
 ghost use Rattle.model.specs.Sheet.{agentsOf, choresOf};
 ghost use Rattle.model.specs.MostMoves.{mostMoves};
 ghost use Rattle.model.specs.Refusals.{recordedRefusal};
@@ -22,12 +22,6 @@ fn own_prices() -> [u32; model::MAX_CHORES]
     [0; model::MAX_CHORES]
 }
 
-fn own_scratch() -> [u8; model::SCRATCH_SIZE]
-    ensures { λ r. ⌜ length r ≡ scratchSize ⌝ }
-{
-    [0; model::SCRATCH_SIZE]
-}
-
 // How many moves a share-out takes, by a run on lists of its own: nothing lent may be written before the record is known to have room.
 fn count_moves(sheet: &[u8]) -> u64
     requires { ⌜ Valid (now sheet) ⌝ }
@@ -36,7 +30,7 @@ fn count_moves(sheet: &[u8]) -> u64
     let m = sheet::chores(sheet);
     let mut owners = own_owners();
     let mut prices = own_prices();
-    let mut scratch = own_scratch();
+    let mut scratch = totals::no_scratch();
     let mut unrecorded = [0u8; 0];
     let counts = allocation::share(
         sheet,

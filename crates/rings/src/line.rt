@@ -11,12 +11,12 @@ use market::words::with;
 // Where the line starts.
 const LINE: usize = model::MAX_AGENTS;
 
-// Agent i, at this distance plus one, takes the next place.
-pub fn take_place(scratch: &mut [u8], end: usize, i: usize, distance: u8)
+// Agent i takes the next place; its byte is its distance plus one.
+pub fn take_place(scratch: &mut [u8], end: usize, i: usize, byte: u8)
     requires { ⌜ (length (now scratch) ≡ scratchSize) × (end < maxAgents) × (i < maxAgents) ⌝ }
-    ensures { λ r. ⌜ now (scratch .exit) ≡ set (set (now (scratch .entry)) i distance) (maxAgents + end) i ⌝ }
+    ensures { λ r. ⌜ now (scratch .exit) ≡ set (set (now (scratch .entry)) i byte) (maxAgents + end) i ⌝ }
 {
-    scratch[i] = distance;
+    scratch[i] = byte;
     scratch[LINE + end] = i as u8;
 }
 

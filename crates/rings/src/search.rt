@@ -1,5 +1,4 @@
 // The search of step 2b, ring by ring, in the scratch.
-ghost use lib.ListN.{length};
 ghost use Rattle.rings.specs.Search.{Lists, Answered};
 use crate::line;
 

@@ -66,7 +66,7 @@ pub fn sheet_text(book: &[u8], j: usize, out: &mut [u8]) -> SheetText
     let sheet = contents::sheet_at(book, j);
     let mut owners = pages::no_owners();
     let mut prices = pages::no_prices();
-    let mut scratch = pages::no_scratch();
+    let mut scratch = totals::no_scratch();
     let answer = allocation::allocate(sheet, &mut owners, &mut prices, &mut scratch);
     let end = answer_text(sheet, j as u64 + 1, answer, &owners, &prices, out);
     SheetText { end, answer }

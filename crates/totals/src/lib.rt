@@ -5,7 +5,7 @@ ghost use Prim.Native.Nat.{_≤_, _<_};
 ghost use lib.Dec.{ltb};
 ghost use lib.ListN.{length, getD, replicate};
 ghost use Rattle.finite.specs.Search.{firstBelow, chosen};
-ghost use Rattle.model.specs.Limits.{maxAgents};
+ghost use Rattle.model.specs.Limits.{maxAgents, scratchSize};
 ghost use Rattle.totals.specs.Totals.{Parts, TakenOff, Summing, Summed};
 
 // A number for each agent. Made in a function of its own, so that its entries are one value where it is used.
@@ -13,6 +13,13 @@ pub fn zeros() -> [u32; model::MAX_AGENTS]
     ensures { λ r. ⌜ r ≡ replicate maxAgents 0 ⌝ }
 {
     [0; model::MAX_AGENTS]
+}
+
+// Scratch for a share-out that is lent none. Only its length counts.
+pub fn no_scratch() -> [u8; model::SCRATCH_SIZE]
+    ensures { λ r. ⌜ scratchSize ≡ length r ⌝ }
+{
+    [0; model::SCRATCH_SIZE]
 }
 
 // For a lent scratch, which ends as zeros.

@@ -37,7 +37,7 @@ pub fn sheet_text(book: &[u8], j: usize, out: &mut [u8]) -> SheetText
     let sheet = contents::sheet_at(book, j);
     let mut owners = pages::no_owners();
     let mut prices = pages::no_prices();
-    let mut scratch = pages::no_scratch();
+    let mut scratch = totals::no_scratch();
     let mut bytes = no_record();
     let answer = recorded::allocate_recorded(
         sheet,

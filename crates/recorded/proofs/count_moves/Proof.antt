@@ -1,4 +1,5 @@
 -- `recorded::count_moves` meets its contract.
+use mathlib.Core.Path.{sym}
 use borrow.Author.Needs.{needs}
 use Rattle.recorded.proofs.Recording.{counts-them}
 use Rattle.recorded.proofs.count_moves.Statement.{statement}
@@ -13,8 +14,8 @@ own-owners-requires c κs = search needs
 own-prices-requires : tie.Need-own-prices-requires
 own-prices-requires c κs = search needs
 
-own-scratch-requires : tie.Need-own-scratch-requires
-own-scratch-requires c κs = search needs
+no-scratch-requires : tie.Need-no-scratch-requires
+no-scratch-requires c κs = search needs
 
 sub-share : tie.Need-sub-share
 sub-share c = search needs
@@ -41,7 +42,7 @@ slice-aggregate-share-2 : tie.Need-slice-aggregate-share-2
 slice-aggregate-share-2 c = search needs
 
 share-requires : tie.Need-share-requires
-share-requires c κs = (search needs, c .before .before .before .before .own-scratch .ensures)
+share-requires c κs = (search needs, sym (c .before .before .before .before .no-scratch .ensures))
 
 returns : tie.Need-returns
 returns c =
@@ -56,7 +57,7 @@ count-moves-spec =
     chores-requires
     own-owners-requires
     own-prices-requires
-    own-scratch-requires
+    no-scratch-requires
     sub-share
     part-owners-start
     part-owners-end

@@ -15,7 +15,7 @@ add-scratch : tie.Need-add-scratch
 add-scratch c = search needs
 
 slice-write-scratch-2 : tie.Need-slice-write-scratch-2
-slice-write-scratch-2 c = rw (length-set (c .args .scratch .now) (c .args .i) (c .args .distance)) (omega (arith, c .pre .0, c .pre .1))
+slice-write-scratch-2 c = rw (length-set (c .args .scratch .now) (c .args .i) (c .args .byte)) (omega (arith, c .pre .0, c .pre .1))
 
 same-length : tie.Need-same-length
 same-length c = search needs
