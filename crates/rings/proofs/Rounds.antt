@@ -14,13 +14,14 @@ use lib.ListN.{length, getD, set}
 use borrow.Author.Tests.{ne-eqb}
 use Rattle.finite.specs.Bits.{SetOf}
 use Rattle.finite.proofs.Tests.{and-intro, and-no-left, and-no-right, not-on}
+use Rattle.finite.proofs.Below.{by-less}
 use Rattle.model.specs.Limits.{maxAgents}
 use Rattle.model.specs.Instance.{Instance}
 use Rattle.model.specs.Step2b.{atDistance}
-use Rattle.rings.specs.Line.{ringsBefore, isReached, standsAt, Filled, Started}
+use Rattle.rings.specs.Line.{ringsBefore, isReached, standsAt, byteAt, Filled, Started}
 use Rattle.rings.specs.Search.{Searching, Answered}
 use Rattle.rings.proofs.InLine.{line-next}
-use Rattle.rings.proofs.Started.{unreached-by, filled-most, filled-room, filled-take}
+use Rattle.rings.proofs.Started.{unreached-by, filled-most, filled-room, filled-take, byte-taken, byte-kept, started-byte}
 use Rattle.rings.proofs.Ringed.{inNextRing, Ringed, ringed-start, ringed-next, ringed-skip, ringed-take, ringed-found, ringed-ring, ringed-ended}
 
 -- the search has come to agent g of ring t
@@ -32,28 +33,33 @@ pub record Rounds (n : ℕ) (offers sums ups : List ℕ) (least t from to : ℕ)
   pub come : Come n offers sums ups least t n to lent scratch
   pub begun : (I : Instance) (x p : ℕ → ℕ) → I .n ≡ n → Searching I x p offers sums ups least → from ≡ length (ringsBefore (I .n) (atDistance I x p) t)
 
--- the loop over distances, since the line held `first` agents: no ring before this one was empty
-pub record AtRing (n : ℕ) (offers sums ups : List ℕ) (least t from to first : ℕ) (start scratch : List ℕ) : Type 0 where
+-- the loop over distances, since the line held `first` agents: no ring before this one was empty, and the byte of its first agent tells its distance
+pub record AtRing (n : ℕ) (offers sums ups : List ℕ) (least from to first : ℕ) (start scratch : List ℕ) : Type 0 where
+  pub t : ℕ
   pub deep : t ≤ from
   pub ordered : from ≤ to
+  pub told : from < to → byteAt scratch from ≡ t + 1
   pub filled : Filled n scratch to
   pub rounds : (lent : List ℕ) → Started n sums least lent start first → Rounds n offers sums ups least t from to lent scratch
 
--- the loop over agents, since the scratch was as before ring t + 1
-pub record AtAgent (n : ℕ) (offers sums ups : List ℕ) (least t from to i end : ℕ) (before scratch : List ℕ) : Type 0 where
+-- the loop over agents, since the scratch was as before the ring whose agents get the byte `further`
+pub record AtAgent (n : ℕ) (offers sums ups : List ℕ) (least from to further i end : ℕ) (before scratch : List ℕ) : Type 0 where
   pub limit : i ≤ n
   pub ordered : to ≤ end
   pub filled : Filled n scratch end
-  pub come : (lent : List ℕ) → Rounds n offers sums ups least t from to lent before → Come n offers sums ups least (suc t) i end lent scratch
+  pub told : to < end → byteAt scratch to ≡ further
+  pub come : (t : ℕ) → further ≡ t + 2 → (lent : List ℕ) → Rounds n offers sums ups least t from to lent before → Come n offers sums ups least (suc t) i end lent scratch
 
 module _ {n : ℕ} {offers sums ups : List ℕ} {least : ℕ} where
-  pub ring-start : {first : ℕ} {start : List ℕ} → Filled n start first → AtRing n offers sums ups least 0 0 first first start start
+  pub ring-start : {first : ℕ} {lent₀ start : List ℕ} → Started n sums least lent₀ start first → AtRing n offers sums ups least 0 first first start start
   unfolding ringsBefore
-  ring-start F =
+  ring-start T₀ =
       record {
+        t = 0;
         deep = le-refl 0;
         ordered = omega arith;
-        filled = F;
+        told = started-byte T₀;
+        filled = T₀ .filled;
         rounds =
             λ lent T. record {
               come = record { ringed = λ I x p en S. rw (← en) (ringed-start S (rw en T)) };
@@ -109,39 +115,51 @@ module _ {n : ℕ} {offers sums ups : List ℕ} {least : ℕ} where
               searched = λ I x p en S. rw byte (ringed-found S (rw en l) (C .ringed I x p en S) (here I x p en S) (rw en few) (F .size) room e (rw en below) high);
             }
 
-  module _ {t from to first : ℕ} {start before : List ℕ} (R : AtRing n offers sums ups least t from to first start before) where
-    pub agent-first : AtAgent n offers sums ups least t from to 0 to before before
-    agent-first =
-        record { limit = omega arith; ordered = le-refl to; filled = R .filled; come = λ lent Q. come-first Q }
+  module _ {from to first : ℕ} {start before : List ℕ} (R : AtRing n offers sums ups least from to first start before) where
+    pub agent-first : (further : ℕ) → AtAgent n offers sums ups least from to further 0 to before before
+    agent-first further =
+        record { limit = omega arith; ordered = le-refl to; filled = R .filled; told = λ l. absurd (omega arith); come = λ t e lent Q. come-first Q }
 
-    -- distances are below n
-    pub ring-below : from < to → t < n
-    ring-below l = omega (arith, R .deep, filled-most (R .filled))
+    module _ (some : from < to) where
+      -- distances are below n
+      pub ring-below : R .t < n
+      ring-below = omega (arith, R .deep, filled-most (R .filled))
 
-    pub ring-next : {end : ℕ} {scratch : List ℕ} → from < to → AtAgent n offers sums ups least t from to n end before scratch → AtRing n offers sums ups least (t + 1) to end first start scratch
-    ring-next l A =
-        record {
-          deep = omega (arith, R .deep);
-          ordered = A .ordered;
-          filled = A .filled;
-          rounds = λ lent T. let Q = R .rounds lent T in rounds-next Q (A .come lent Q);
-        }
+      pub ring-further : {byte : ℕ} → byte ≡ byteAt before from → byte + 1 ≡ R .t + 2
+      ring-further e = omega (arith, R .told some)
+
+      pub ring-next : {further end : ℕ} {scratch : List ℕ} → further ≡ R .t + 2 → AtAgent n offers sums ups least from to further n end before scratch → AtRing n offers sums ups least to end first start scratch
+      ring-next f A =
+          record {
+            t = R .t + 1;
+            deep = omega (arith, R .deep);
+            ordered = A .ordered;
+            told = λ l. omega (arith, A .told l, f);
+            filled = A .filled;
+            rounds = λ lent T. let Q = R .rounds lent T in rounds-next Q (A .come (R .t) f lent Q);
+          }
 
     pub ring-last : to ≤ from → {lent : List ℕ} → Started n sums least lent start first → {giver : ℕ} (takers : ℕ) → giver ≡ n → Answered n offers sums ups least giver takers lent before
     ring-last l {lent} T =
         let none : from ≡ to = omega (arith, R .ordered) in
         rounds-ended (R .rounds lent T) none (omega (arith, R .deep, filled-most (R .filled)))
 
-  module _ {t from to i end ring : ℕ} {before scratch : List ℕ} (stands : SetOf n ring (standsAt before from to)) (l : i < n) (A : AtAgent n offers sums ups least t from to i end before scratch) where
-    agent-skip : inNextRing offers ring scratch i ≡ false → AtAgent n offers sums ups least t from to (i + 1) end before scratch
+  module _ {from to further i end ring : ℕ} {before scratch : List ℕ} (stands : SetOf n ring (standsAt before from to)) (l : i < n) (A : AtAgent n offers sums ups least from to further i end before scratch) where
+    agent-skip : inNextRing offers ring scratch i ≡ false → AtAgent n offers sums ups least from to further (i + 1) end before scratch
     agent-skip e =
-        record { limit = omega arith; ordered = A .ordered; filled = A .filled; come = λ lent Q. come-skip Q stands l (A .come lent Q) e }
+        record {
+          limit = omega arith;
+          ordered = A .ordered;
+          filled = A .filled;
+          told = A .told;
+          come = λ t f lent Q. come-skip Q stands l (A .come t f lent Q) e;
+        }
 
-    pub agent-reached : (getD scratch i 0 ≡ 0 → ⊥) → AtAgent n offers sums ups least t from to (i + 1) end before scratch
+    pub agent-reached : (getD scratch i 0 ≡ 0 → ⊥) → AtAgent n offers sums ups least from to further (i + 1) end before scratch
     unfolding inNextRing isReached
     agent-reached p = agent-skip (and-no-left _ (ap (λ b. not (not b)) (ne-eqb _ 0 p)))
 
-    pub agent-unwanted : not (eqb (bitAnd (getD offers i 0) ring) 0) ≡ false → AtAgent n offers sums ups least t from to (i + 1) end before scratch
+    pub agent-unwanted : not (eqb (bitAnd (getD offers i 0) ring) 0) ≡ false → AtAgent n offers sums ups least from to further (i + 1) end before scratch
     unfolding inNextRing
     agent-unwanted e = agent-skip (and-no-right (not (isReached scratch i)) e)
 
@@ -153,14 +171,22 @@ module _ {n : ℕ} {offers sums ups : List ℕ} {least : ℕ} where
       pub agent-room : end < maxAgents
       agent-room = omega (arith, filled-room (A .filled) i l zero)
 
-      pub agent-take : getD ups i 0 ≤ least → AtAgent n offers sums ups least t from to (i + 1) (end + 1) before (set (set scratch i (t + 2)) (maxAgents + end) i)
-      agent-take low =
+      -- the first of the ring has the byte, and so the ring
+      still-told : 0 < further → to < end + 1 → byteAt (set (set scratch i further) (maxAgents + end) i) to ≡ further
+      still-told positive h =
+          by-less to end
+          (λ b. let e = A .told b in byte-kept (A .filled) further few l zero b (rw e positive) ∙ e)
+          (λ b. let e : to ≡ end = omega (arith, A .ordered) in rw e (byte-taken (A .filled) few l zero))
+
+      pub agent-take : 0 < further → getD ups i 0 ≤ least → AtAgent n offers sums ups least from to further (i + 1) (end + 1) before (set (set scratch i further) (maxAgents + end) i)
+      agent-take positive low =
           record {
             limit = omega arith;
             ordered = omega (arith, A .ordered);
-            filled = filled-take (A .filled) few l zero (omega arith);
-            come = λ lent Q. come-take Q stands l (A .come lent Q) few (A .filled) agent-room next low;
+            filled = filled-take (A .filled) few l zero positive;
+            told = still-told positive;
+            come = λ t f lent Q. rw f (come-take Q stands l (A .come t f lent Q) few (A .filled) agent-room next low);
           }
 
-      pub agent-found : {lent : List ℕ} → Rounds n offers sums ups least t from to lent before → t < n → least < getD ups i 0 → Answered n offers sums ups least i (bitAnd (getD offers i 0) ring) lent (set (set scratch i (t + 2)) (maxAgents + end) i)
-      agent-found {lent} Q = come-found Q stands l (A .come lent Q) few (A .filled) agent-room next
+      pub agent-found : {t : ℕ} {lent : List ℕ} → further ≡ t + 2 → Rounds n offers sums ups least t from to lent before → t < n → least < getD ups i 0 → Answered n offers sums ups least i (bitAnd (getD offers i 0) ring) lent (set (set scratch i further) (maxAgents + end) i)
+      agent-found {t} {lent} f Q below high = rw f (come-found Q stands l (A .come t f lent Q) few (A .filled) agent-room next below high)

@@ -17,9 +17,9 @@ use Rattle.finite.proofs.Tests.{clash, fails-of, and-elim, cond-false}
 use Rattle.finite.proofs.Below.{none-below, by-top, by-less}
 use Rattle.finite.proofs.Sums.{sum-zero, sum-next, sum-cong}
 use Rattle.finite.proofs.Counts.{count-le, count-full, count-change}
-use Rattle.finite.proofs.Passing.{pass-cong}
+use Rattle.finite.proofs.Passing.{pass-cong, pass-at}
 use Rattle.model.specs.Limits.{maxAgents, scratchSize}
-use Rattle.rings.specs.Line.{ringsBefore, lineTo, Lined, starts, isReached, Filled, Started}
+use Rattle.rings.specs.Line.{ringsBefore, lineTo, Lined, starts, isReached, byteAt, Filled, Started}
 use Rattle.rings.proofs.InLine.{in-here, in-cases, line-skip, lined-skip, lined-take, at-agent, at-place, at-other, longer}
 
 -- the byte of an agent
@@ -65,6 +65,24 @@ module _ {n : ℕ} {scratch : List ℕ} {end : ℕ} (F : Filled n scratch end) w
             (λ b. rw (at-other scratch i end v (F .size) known fits (maxAgents + k) (omega arith) (omega arith)) (F .known k b))
             (λ b. let q : k ≡ end = omega arith in rw (q, at-place scratch i end v (F .size) known fits) l);
       }
+
+  -- the byte of whoever takes the place, and of those who have one: it was not 0
+  pub byte-taken : {i v : ℕ} → n ≤ maxAgents → i < n → getD scratch i 0 ≡ 0 → byteAt (set (set scratch i v) (maxAgents + end) i) end ≡ v
+  unfolding byteAt
+  byte-taken {i} {v} few l e =
+      let known : i < maxAgents = omega arith in
+      let room : end < maxAgents = omega (arith, filled-room i l e) in
+      rw (at-place scratch i end v (F .size) known room) (at-agent scratch i end v (F .size) known room)
+
+  pub byte-kept : {i k : ℕ} (v : ℕ) → n ≤ maxAgents → i < n → getD scratch i 0 ≡ 0 → k < end → 0 < byteAt scratch k → byteAt (set (set scratch i v) (maxAgents + end) i) k ≡ byteAt scratch k
+  unfolding byteAt
+  byte-kept {i} {k} v few l e h positive =
+      let known : i < maxAgents = omega arith in
+      let room : end < maxAgents = omega (arith, filled-room i l e) in
+      let agent = getD scratch (maxAgents + k) 0 in
+      let other = at-other scratch i end v (F .size) known room in
+      rw (other (maxAgents + k) (omega arith) (omega arith))
+      (other agent (λ q. let z : getD scratch agent 0 ≡ 0 = rw q e in omega arith) (omega (arith, F .known k h)))
 
 pub filled-none : {scratch : List ℕ} → length scratch ≡ scratchSize → Filled 0 scratch 0
 unfolding countTo
@@ -158,6 +176,14 @@ module _ {sums : List ℕ} {least : ℕ} {lent : List ℕ} where
           lined = rw add-one (lined-take (suc k) (starts sums least) here so-far (starts-once sums least) (F .size) (rw add-one at few′) (le-refl _) (omega arith) cleared);
           ended = rw (add-one k) (longer (suc k) (starts sums least) here so-far);
         }
+
+-- the first in line are at distance 0
+pub started-byte : {n end : ℕ} {sums : List ℕ} {least : ℕ} {lent scratch : List ℕ} → Started n sums least lent scratch end → 0 < end → byteAt scratch 0 ≡ 1
+unfolding byteAt lineTo ringsBefore
+started-byte {n} {sums = sums} {least = least} S l =
+    let there : 0 < length (passing n (starts sums least 0)) = rw (← S .ended) l in
+    let p = pass-at n (starts sums least 0) 0 there in
+    rw (S .lined .place 0 there) (S .lined .distance _ 0 (p .below) (in-here (starts sums least) 0 n _ (p .passes) (p .below)) (p .passes))
 
 -- Where those of least sum are the ring at distance 0, this is its line.
 module _ (n : ℕ) (sums : List ℕ) (least : ℕ) (ring : ℕ → ℕ → Bool) (same : (i : ℕ) → i < n → eqb (getD sums i 0) least ≡ ring 0 i) where

@@ -46,6 +46,10 @@ isReached scratch i = not (eqb (getD scratch i 0) 0)
 unfoldable pub standsAt : List ℕ → ℕ → ℕ → ℕ → Bool
 standsAt scratch from to i = anyBelow to (λ k. leb from k && eqb i (getD scratch (maxAgents + k) 0))
 
+-- the byte of the agent at place k
+unfoldable pub byteAt : List ℕ → ℕ → ℕ
+byteAt scratch k = getD scratch (getD scratch (maxAgents + k) 0) 0
+
 -- safety: as many places are taken as agents are reached, and an agent of n stands at each
 pub record Filled (n : ℕ) (scratch : List ℕ) (end : ℕ) : Type 0 where
   pub size : length scratch ≡ scratchSize

@@ -5,7 +5,7 @@ ghost use Prim.Native.Nat.{ℕ, _+_, _≤_, _<_};
 ghost use lib.ListN.{length, getD, set};
 ghost use Rattle.finite.specs.Bits.{SetOf};
 ghost use Rattle.model.specs.Limits.{maxAgents, scratchSize};
-ghost use Rattle.rings.specs.Line.{Started, isReached, standsAt};
+ghost use Rattle.rings.specs.Line.{Started, isReached, standsAt, byteAt};
 use market::words::with;
 
 // Where the line starts.
@@ -36,6 +36,14 @@ pub fn start(n: usize, sums: &[u32], least: u32, scratch: &mut [u8]) -> usize
         i += 1;
     }
     end
+}
+
+// The byte of the agent at place k.
+pub fn byte_at(scratch: &[u8], k: usize) -> u8
+    requires { ⌜ (length (now scratch) ≡ scratchSize) × (k < maxAgents) × (getD (now scratch) (maxAgents + k) 0 < maxAgents) ⌝ }
+    ensures { λ r. ⌜ r ≡ byteAt (now (scratch .entry)) k ⌝ }
+{
+    scratch[scratch[LINE + k] as usize]
 }
 
 // The agents at the places from `from` up to `to`, as the bits of a word.

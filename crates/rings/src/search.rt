@@ -8,8 +8,8 @@ pub struct Found {
     pub takers: u32,
 }
 
-// From one distance t to the next: whoever is not reached and has an offer for the ring at t takes a place in line. The search leaves all rings
-// as soon as somebody above the least sum does.
+// From one distance to the next: whoever is not reached and has an offer for the ring takes a place in line, one further than the ring. The search
+// leaves all rings as soon as somebody above the least sum does.
 pub fn search(
     n: usize,
     offers: &[u32],
@@ -25,15 +25,15 @@ pub fn search(
     let mut takers = 0u32;
     let mut from = 0;
     let mut to = line::start(n, sums, least, scratch);
-    let mut t = 0u8;
     'rings: while from < to {
         let ring = line::ring(n, scratch, from, to);
+        let further = line::byte_at(scratch, from) + 1;
         let mut end = to;
         let mut i = 0;
         while i < n {
             let wanting = offers[i] & ring;
             if scratch[i] == 0 && wanting != 0 {
-                line::take_place(scratch, end, i, t + 2);
+                line::take_place(scratch, end, i, further);
                 end += 1;
                 if ups[i] > least {
                     giver = i;
@@ -45,7 +45,6 @@ pub fn search(
         }
         from = to;
         to = end;
-        t += 1;
     }
     Found { giver, takers }
 }
