@@ -9,7 +9,14 @@ use steps::Turn;
 use steps::step_2a;
 use steps::step_2b;
 
-// Stage 0 is 2b; any other is the group at work in 2a.
+// The counters of a run, and where it stands: stage 0 is 2b, any other is the group at work in 2a.
+pub struct Counts {
+    pub moves: u64,
+    pub cuts: u8,
+    pub stage: u8,
+}
+
+// The step that is due.
 fn take_turn(
     sheet: &[u8],
     owners: &mut [u8],
@@ -17,16 +24,15 @@ fn take_turn(
     groups: &mut [u8],
     entitled: &mut [u8],
     likes: &[u32],
-    cuts: u8,
-    stage: u8,
     scratch: &mut [u8],
+    at: Counts,
 ) -> Turn
-    requires { ⌜ Turning (now sheet) (now owners) (now prices) (now groups) (now entitled) (now likes) cuts stage ⌝ }
+    requires { ⌜ Turning (now sheet) (now owners) (now prices) (now groups) (now entitled) (now likes) (at .cuts) (at .stage) ⌝ }
     requires { ⌜ length (now scratch) ≡ scratchSize ⌝ }
-    ensures { λ r. ⌜ Turned (now (sheet .entry)) (now (owners .entry)) (now (prices .entry)) (now (groups .entry)) (now (entitled .entry)) cuts stage
+    ensures { λ r. ⌜ Turned (now (sheet .entry)) (now (owners .entry)) (now (prices .entry)) (now (groups .entry)) (now (entitled .entry)) (at .cuts) (at .stage)
         r (now (owners .exit)) (now (prices .exit)) (now (groups .exit)) (now (entitled .exit)) ⌝ }
 {
-    if stage == 0 {
+    if at.stage == 0 {
         return step_2b(
             sheet,
             owners,
@@ -34,17 +40,20 @@ fn take_turn(
             groups,
             entitled,
             likes,
-            cuts,
+            at.cuts,
             scratch,
         );
     }
-    step_2a(sheet, owners, prices, groups, entitled, likes, cuts, stage)
-}
-
-// The counters of a run.
-pub struct Counts {
-    pub moves: u64,
-    pub cuts: u8,
+    step_2a(
+        sheet,
+        owners,
+        prices,
+        groups,
+        entitled,
+        likes,
+        at.cuts,
+        at.stage,
+    )
 }
 
 // From the opening to the stop in 2b. A cut starts 2a at the group before the new one. Moves that the record has no room for are counted only.
@@ -62,36 +71,28 @@ pub fn run(
     requires { ⌜ length (now scratch) ≡ scratchSize ⌝ }
     ensures { λ r. ⌜ RunEnds (now (sheet .entry)) (now (owners .exit)) (now (prices .exit)) (now (groups .exit)) (now (entitled .exit)) (now («record» .entry)) (now («record» .exit)) (r .moves) (r .cuts) ⌝ }
 {
-    let mut moves = 0u64;
-    let mut cuts = 0u8;
-    let mut stage = 0u8;
+    let mut at = Counts {
+        moves: 0,
+        cuts: 0,
+        stage: 0,
+    };
     loop {
-        let turn = take_turn(
-            sheet,
-            owners,
-            prices,
-            groups,
-            entitled,
-            likes,
-            cuts,
-            stage,
-            scratch,
-        );
+        let turn = take_turn(sheet, owners, prices, groups, entitled, likes, scratch, at);
         match turn {
             Turn::Moved {
                 chore,
                 giver,
                 receiver,
             } => {
-                note(record, moves, chore, giver, receiver, cuts, stage);
-                moves += 1;
+                note(record, at.moves, chore, giver, receiver, at.cuts, at.stage);
+                at.moves += 1;
             }
-            Turn::Passed => stage -= 1,
+            Turn::Passed => at.stage -= 1,
             Turn::Cut => {
-                stage = cuts;
-                cuts += 1;
+                at.stage = at.cuts;
+                at.cuts += 1;
             }
-            Turn::Ended => return Counts { moves, cuts },
+            Turn::Ended => return at,
         }
     }
 }

@@ -15,12 +15,12 @@ use Rattle.allocation.proofs.run.run.Statement.{statement}
 use Rattle.allocation.proofs.run.run.Tie as tie
 
 abbrev Inv-loop : tie.InvT-loop
-Inv-loop sheet owners₀ prices₀ groups₀ entitled₀ likes scratch₀ record₀ _ _ _ owners prices groups entitled scratch «record» moves cuts stage =
-    Kit sheet likes × Running sheet owners prices groups entitled record₀ «record» moves cuts stage × (length scratch ≡ scratchSize)
+Inv-loop sheet owners₀ prices₀ groups₀ entitled₀ likes scratch₀ record₀ at₀ owners prices groups entitled scratch «record» at =
+    Kit sheet likes × Running sheet owners prices groups entitled record₀ «record» (at .moves) (at .cuts) (at .stage) × (length scratch ≡ scratchSize)
 
 abbrev μ-loop : tie.MeasureT-loop
-μ-loop sheet owners₀ prices₀ groups₀ entitled₀ likes scratch₀ record₀ _ _ _ owners prices groups entitled scratch «record» moves cuts stage =
-    stepNumber (asRead sheet) (stateOf owners prices groups entitled moves cuts stage)
+μ-loop sheet owners₀ prices₀ groups₀ entitled₀ likes scratch₀ record₀ at₀ owners prices groups entitled scratch «record» at =
+    stepNumber (asRead sheet) (stateOf owners prices groups entitled (at .moves) (at .cuts) (at .stage))
 
 -- back from the match on a turn to the turn, from there to the loop, and to the start
 abbrev turnAt : tie.After-slice-known11 Inv-loop μ-loop → tie.After-take-turn Inv-loop μ-loop
@@ -54,76 +54,76 @@ note-requires c κs =
     let inv = loopAt turn .loop .inv in
     numbers (inv .0 .valid) (inv .1) (turn .take-turn .ensures) (told .turn .given .1) refl
 
-add-moves : tie.Need-add-moves Inv-loop μ-loop
-add-moves c =
-    let inv = loopAt (turnAt (toldAt c .before .before)) .loop .inv in
+add-at : tie.Need-add-at Inv-loop μ-loop
+add-at c =
+    let inv = loopAt (turnAt (toldAt (c .before) .before .before)) .loop .inv in
     record { fits = omega (arith, moves-fit (inv .0 .valid) (inv .1)) }
 
 loop-less : tie.Need-loop-less Inv-loop μ-loop
 loop-less c =
-    let told = toldAt c in
+    let told = toldAt (c .before) in
     let turn = turnAt (told .before .before) in
     let inv = loopAt turn .loop .inv in
     falls (inv .0 .valid) (inv .1) (turn .take-turn .ensures) (told .turn .given .1) refl
 
 loop-again : tie.Need-loop-again Inv-loop μ-loop
 loop-again c =
-    let told = toldAt c in
+    let told = toldAt (c .before) in
     let turn = turnAt (told .before .before) in
     let inv = loopAt turn .loop .inv in
-    let noted = notes (inv .0 .valid) (inv .1) (turn .take-turn .ensures) (told .turn .given .1) refl (c .before .before .note .ensures) in
+    let noted = notes (inv .0 .valid) (inv .1) (turn .take-turn .ensures) (told .turn .given .1) refl (c .before .before .before .note .ensures) in
     (inv .0, runs-on (inv .0 .valid) (inv .1) (turn .take-turn .ensures) (told .turn .given .1) refl noted, search needs)
 
 enum-told : tie.Need-enum-told Inv-loop μ-loop
 enum-told c = search needs
 
-sub-stage : tie.Need-sub-stage Inv-loop μ-loop
-sub-stage c =
-    let turn = turnAt (c .before .before) in
+sub-at : tie.Need-sub-at Inv-loop μ-loop
+sub-at c =
+    let turn = turnAt (c .before .before .before) in
     let inv = loopAt turn .loop .inv in
-    passes-down (inv .0 .valid) (inv .1) (turn .take-turn .ensures) (c .enum-told .given .1) refl
+    passes-down (inv .0 .valid) (inv .1) (turn .take-turn .ensures) (c .before .enum-told .given .1) refl
 
 loop-less-2 : tie.Need-loop-less-2 Inv-loop μ-loop
 loop-less-2 c =
-    let turn = turnAt (c .before .before) in
+    let turn = turnAt (c .before .before .before) in
     let inv = loopAt turn .loop .inv in
-    falls (inv .0 .valid) (inv .1) (turn .take-turn .ensures) (c .enum-told .given .1) refl
+    falls (inv .0 .valid) (inv .1) (turn .take-turn .ensures) (c .before .enum-told .given .1) refl
 
 loop-again-2 : tie.Need-loop-again-2 Inv-loop μ-loop
 unfolding handsOver
 loop-again-2 c =
-    let turn = turnAt (c .before .before) in
+    let turn = turnAt (c .before .before .before) in
     let inv = loopAt turn .loop .inv in
-    let noted = notes-none (inv .0 .valid) (inv .1) (turn .take-turn .ensures) (c .enum-told .given .1) refl in
-    (inv .0, runs-on (inv .0 .valid) (inv .1) (turn .take-turn .ensures) (c .enum-told .given .1) refl noted, search needs)
+    let noted = notes-none (inv .0 .valid) (inv .1) (turn .take-turn .ensures) (c .before .enum-told .given .1) refl in
+    (inv .0, runs-on (inv .0 .valid) (inv .1) (turn .take-turn .ensures) (c .before .enum-told .given .1) refl noted, search needs)
 
 enum-told-2 : tie.Need-enum-told-2 Inv-loop μ-loop
 enum-told-2 c = search needs
 
-add-cuts : tie.Need-add-cuts Inv-loop μ-loop
-add-cuts c =
-    let inv = loopAt (turnAt (c .before .before)) .loop .inv in
+add-at-2 : tie.Need-add-at-2 Inv-loop μ-loop
+add-at-2 c =
+    let inv = loopAt (turnAt (c .before .before .before)) .loop .inv in
     record { fits = omega (arith, cuts-fit (inv .0 .valid) (inv .1)) }
 
 loop-less-3 : tie.Need-loop-less-3 Inv-loop μ-loop
 loop-less-3 c =
-    let turn = turnAt (c .before .before) in
+    let turn = turnAt (c .before .before .before) in
     let inv = loopAt turn .loop .inv in
-    falls (inv .0 .valid) (inv .1) (turn .take-turn .ensures) (c .enum-told2 .given .1) refl
+    falls (inv .0 .valid) (inv .1) (turn .take-turn .ensures) (c .before .enum-told2 .given .1) refl
 
 loop-again-3 : tie.Need-loop-again-3 Inv-loop μ-loop
 unfolding handsOver
 loop-again-3 c =
-    let turn = turnAt (c .before .before) in
+    let turn = turnAt (c .before .before .before) in
     let inv = loopAt turn .loop .inv in
-    let noted = notes-none (inv .0 .valid) (inv .1) (turn .take-turn .ensures) (c .enum-told2 .given .1) refl in
-    (inv .0, runs-on (inv .0 .valid) (inv .1) (turn .take-turn .ensures) (c .enum-told2 .given .1) refl noted, search needs)
+    let noted = notes-none (inv .0 .valid) (inv .1) (turn .take-turn .ensures) (c .before .enum-told2 .given .1) refl in
+    (inv .0, runs-on (inv .0 .valid) (inv .1) (turn .take-turn .ensures) (c .before .enum-told2 .given .1) refl noted, search needs)
 
 enum-told-3 : tie.Need-enum-told-3 Inv-loop μ-loop
 enum-told-3 c = search needs
 
 -- the lists have their lengths from the first state on
-shaped : (c : tie.At-loop Inv-loop μ-loop) → let loop = c .loop in Shaped (asRead (start c .args .sheet .now)) (stateOf (loop .owners) (loop .prices) (loop .groups) (loop .entitled) (loop .moves) (loop .cuts) (loop .stage))
+shaped : (c : tie.At-loop Inv-loop μ-loop) → let loop = c .loop in Shaped (asRead (start c .args .sheet .now)) (stateOf (loop .owners) (loop .prices) (loop .groups) (loop .entitled) (loop .at .moves) (loop .at .cuts) (loop .at .stage))
 shaped c = state-reached (c .loop .inv .0 .valid) (c .loop .inv .1) .shaped
 
 shaped-first : (c : tie.At-loop Inv-loop μ-loop) → let args = start c .args in Shaped (asRead (args .sheet .now)) (stateOf (args .owners .now) (args .prices .now) (args .groups .now) (args .entitled .now) 0 0 0)
@@ -164,15 +164,15 @@ run-spec =
     take-turn-requires
     enum-known-turn
     note-requires
-    add-moves
+    add-at
     loop-less
     loop-again
     enum-told
-    sub-stage
+    sub-at
     loop-less-2
     loop-again-2
     enum-told-2
-    add-cuts
+    add-at-2
     loop-less-3
     loop-again-3
     enum-told-3

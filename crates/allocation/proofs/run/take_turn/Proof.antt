@@ -7,7 +7,7 @@ use Rattle.allocation.proofs.run.take_turn.Tie as tie
 step-2b-requires : tie.Need-step-2b-requires
 step-2b-requires c κs =
     let test = c .before .before .before .before .before in
-    let start = test .before .before .before .before .before .before .before .before in
+    let start = test .before .before .before .before .before .before .before .before .before in
     (rw (test .if1 .taken) at (start .pre .0), start .pre .1)
 
 same-length : tie.Need-same-length
@@ -34,7 +34,7 @@ returns c =
 step-2a-requires : tie.Need-step-2a-requires
 step-2a-requires c κs =
     let test = c .before .before .before .before in
-    let start = test .before .before .before .before .before .before .before .before in
+    let start = test .before .before .before .before .before .before .before .before .before in
     (start .pre .0, omega arith)
 
 same-length-6 : tie.Need-same-length-6
