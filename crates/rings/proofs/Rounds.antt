@@ -11,7 +11,7 @@ use native.Mathlib.Omega.{arith}
 use lib.Bits.{bitAnd}
 use lib.Dec.{eqb}
 use lib.ListN.{length, getD, set}
-use borrow.Author.Tests.{ne-eqb}
+use borrow.Author.Tests.{eq-eqb, ne-eqb, eqb-true}
 use Rattle.finite.specs.Bits.{SetOf}
 use Rattle.finite.proofs.Tests.{and-intro, and-no-left, and-no-right, not-on}
 use Rattle.finite.proofs.Below.{by-less}
@@ -155,18 +155,21 @@ module _ {n : ℕ} {offers sums ups : List ℕ} {least : ℕ} where
           come = λ t f lent Q. come-skip Q stands l (A .come t f lent Q) e;
         }
 
-    pub agent-reached : (getD scratch i 0 ≡ 0 → ⊥) → AtAgent n offers sums ups least from to further (i + 1) end before scratch
+    pub agent-reached : eqb (getD scratch i 0) 0 ≡ false → AtAgent n offers sums ups least from to further (i + 1) end before scratch
     unfolding inNextRing isReached
-    agent-reached p = agent-skip (and-no-left _ (ap (λ b. not (not b)) (ne-eqb _ 0 p)))
+    agent-reached e = agent-skip (and-no-left _ (ap (λ b. not (not b)) e))
 
-    pub agent-unwanted : not (eqb (bitAnd (getD offers i 0) ring) 0) ≡ false → AtAgent n offers sums ups least from to further (i + 1) end before scratch
+    pub agent-unwanted : bitAnd (getD offers i 0) ring ≡ 0 → AtAgent n offers sums ups least from to further (i + 1) end before scratch
     unfolding inNextRing
-    agent-unwanted e = agent-skip (and-no-right (not (isReached scratch i)) e)
+    agent-unwanted e = agent-skip (and-no-right (not (isReached scratch i)) (ap not (eq-eqb _ 0 e)))
 
-    module _ (few : n ≤ maxAgents) (zero : getD scratch i 0 ≡ 0) (some : not (eqb (bitAnd (getD offers i 0) ring) 0) ≡ true) where
+    module _ (few : n ≤ maxAgents) (some : bitAnd (getD offers i 0) ring ≡ 0 → ⊥) (unreached : eqb (getD scratch i 0) 0 ≡ true) where
+      zero : getD scratch i 0 ≡ 0
+      zero = eqb-true (getD scratch i 0) 0 unreached
+
       next : inNextRing offers ring scratch i ≡ true
       unfolding inNextRing
-      next = and-intro (not-on (unreached-by scratch i zero)) some
+      next = and-intro (not-on (unreached-by scratch i zero)) (ap not (ne-eqb _ 0 some))
 
       pub agent-room : end < maxAgents
       agent-room = omega (arith, filled-room (A .filled) i l zero)

@@ -32,7 +32,7 @@ pub fn search(
         let mut i = 0;
         while i < n {
             let wanting = offers[i] & ring;
-            if scratch[i] == 0 && wanting != 0 {
+            if wanting != 0 && scratch[i] == 0 {
                 line::take_place(scratch, end, i, further);
                 end += 1;
                 if ups[i] > least {

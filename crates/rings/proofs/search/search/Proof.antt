@@ -86,8 +86,8 @@ mul-wanting c = search needs
 shared-slice-read-wanting : tie.Need-shared-slice-read-wanting Inv-loop μ-loop Inv-rings μ-rings
 shared-slice-read-wanting c = search needs
 
-slice-read-if1 : tie.Need-slice-read-if1 Inv-loop μ-loop Inv-rings μ-rings
-slice-read-if1 c = search needs
+slice-read-if2 : tie.Need-slice-read-if2 Inv-loop μ-loop Inv-rings μ-rings
+slice-read-if2 c = search needs
 
 take-place-requires : tie.Need-take-place-requires Inv-loop μ-loop Inv-rings μ-rings
 take-place-requires c κs =
@@ -95,7 +95,7 @@ take-place-requires c κs =
     let at = turn .before in
     let ring = ring-at (byte-at at) in
     let few = begin (line-at (rings-at ring)) .pre .agents in
-    (at .loop .inv .1 .filled .size, agent-room (ring .ring .ensures) (below turn) (at .loop .inv .1) few (c .before .before .if1 .taken) (c .before .if2 .taken), omega (arith, few))
+    (at .loop .inv .1 .filled .size, agent-room (ring .ring .ensures) (below turn) (at .loop .inv .1) few (c .before .before .before .if1 .taken) (c .before .if2 .taken), omega (arith, few))
 
 add-end : tie.Need-add-end Inv-loop μ-loop Inv-rings μ-rings
 add-end c =
@@ -116,7 +116,7 @@ loop-less c = search needs
 
 loop-again : tie.Need-loop-again Inv-loop μ-loop Inv-rings μ-rings
 loop-again c =
-    let turn = c .before .before .before in
+    let turn = c .before .before in
     let at = turn .before in
     let ring = ring-at (byte-at at) in
     let few = begin (line-at (rings-at ring)) .pre .agents in
@@ -124,8 +124,8 @@ loop-again c =
     let inv = at .loop .inv .1 in (
       at .loop .inv .0,
       ⊎-elim
-          (λ w. rw (w .8, w .9, w .3 .ensures) (agent-take here (below turn) inv few (w .0 .taken) (w .1 .taken) (omega arith) (w .7 .left)))
-          (λ w. rw (w .1, w .2) (⊎-elim (λ v. agent-unwanted here (below turn) inv (v .1 .left)) (λ v. agent-reached here (below turn) inv (v .left)) (w .0 .came)))
+          (λ w. rw (w .9, w .10, w .4 .ensures) (agent-take here (below turn) inv few (w .0 .taken) (w .2 .taken) (omega arith) (w .8 .left)))
+          (λ w. rw (w .1, w .2) (⊎-elim (λ v. agent-reached here (below turn) inv (v .2 .left)) (λ v. agent-unwanted here (below turn) inv (v .left)) (w .0 .came)))
           (c .if1 .came),
     )
 
@@ -165,7 +165,7 @@ returns-2 c =
     let inv = rings .rings .inv .1 in
     let wanted = placed .before .before in
     rw (placed .take-place .ensures)
-    (agent-found (ring .ring .ensures) (below turn) (turn .before .loop .inv .1) (begin (line-at rings) .pre .agents) (wanted .before .if1 .taken) (wanted .if2 .taken)
+    (agent-found (ring .ring .ensures) (below turn) (turn .before .loop .inv .1) (begin (line-at rings) .pre .agents) (wanted .before .before .if1 .taken) (wanted .if2 .taken)
     (ring-further inv some (byte .byte-at .ensures)) (inv .rounds _ (line-at rings .start .ensures)) (ring-below inv some) (c .if3 .taken))
 
 pub search-spec : {M : Type 1} → statement M
@@ -184,7 +184,7 @@ search-spec =
     loop-holds
     mul-wanting
     shared-slice-read-wanting
-    slice-read-if1
+    slice-read-if2
     take-place-requires
     add-end
     mul-if3
