@@ -122,6 +122,6 @@ pub fn allocate_book(
         return turned_down(number);
     }
     totals::clear(scratch);
-    let mut numbers = pricebytes::for_chores();
+    let mut numbers = totals::no_prices();
     share_sheets(book, owners, prices, scratch, &mut numbers)
 }

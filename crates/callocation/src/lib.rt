@@ -94,7 +94,7 @@ pub fn allocate(
         let mut lent = for_few();
         return allocate_with(sheet, owners, prices, scratch, &mut lent, moves, cuts);
     }
-    let mut lent = pricebytes::for_chores();
+    let mut lent = totals::no_prices();
     allocate_with(sheet, owners, prices, scratch, &mut lent, moves, cuts)
 }
 
@@ -129,7 +129,7 @@ pub fn allocate_recorded(
 ) -> u8
     ensures { λ r. ⌜ RecordedInC (now (sheet .entry)) (now (owners .entry)) (now (prices .entry)) (now (scratch .entry)) (now («record» .entry)) (now (owners .exit)) (now (prices .exit)) (now (scratch .exit)) (now («record» .exit)) (now (moves .entry)) (now (cuts .entry)) (now (moves .exit)) (now (cuts .exit)) r ⌝ }
 {
-    let mut lent = pricebytes::for_chores();
+    let mut lent = totals::no_prices();
     allocate_recorded_with(
         sheet,
         owners,

@@ -3,7 +3,6 @@ use text::lines;
 ghost use Prim.Native.Nat.{_≤_};
 ghost use mathlib.Core.Path.{_≡_};
 ghost use lib.ListN.{length};
-ghost use Rattle.model.specs.Limits.{maxChores};
 ghost use Rattle.pages.specs.Printer.{toPrint, lastText};
 ghost use Rattle.pages.specs.Printing.{lastMost, Shows};
 
@@ -17,19 +16,6 @@ pub struct SheetText {
 pub struct LastText {
     pub end: usize,
     pub whole: bool,
-}
-
-// Each list is made by a function of its own, whose contract tells its length and spares the callers its entries.
-pub fn no_owners() -> [u8; model::MAX_CHORES]
-    ensures { λ r. ⌜ maxChores ≡ length r ⌝ }
-{
-    [0; model::MAX_CHORES]
-}
-
-pub fn no_prices() -> [u32; model::MAX_CHORES]
-    ensures { λ r. ⌜ maxChores ≡ length r ⌝ }
-{
-    [0; model::MAX_CHORES]
 }
 
 // How many sheets there are to print: none of a refused book.

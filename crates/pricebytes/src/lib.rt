@@ -5,18 +5,10 @@ ghost use Prim.Native.Nat.{_+_, _*_, _/_, _≤_, min};
 ghost use mathlib.Core.List.{_++_};
 ghost use lib.ListN.{length, take, drop};
 ghost use lib.Seq.{sets};
-ghost use Rattle.model.specs.Limits.{maxChores};
 ghost use Rattle.pricebytes.specs.PriceBytes.{priceAt, pricesIn, fourBytes, withPrices, Room};
 
 // Bytes to a price.
 pub const SIZE: usize = 4;
-
-// A list to lend for the prices of one sheet as numbers. Only its length counts.
-pub fn for_chores() -> [u32; model::MAX_CHORES]
-    ensures { λ r. ⌜ length r ≡ maxChores ⌝ }
-{
-    [0; model::MAX_CHORES]
-}
 
 // How many prices a list of so many bytes holds, `most` at most: no call looks at more.
 pub fn entries(bytes: usize, most: usize) -> usize

@@ -1,7 +1,6 @@
 // The share-out with a record of its moves.
 ghost use mathlib.Core.Path.{_≡_};
 ghost use lib.ListN.{length};
-ghost use Rattle.model.specs.Limits.{maxChores};
 ghost use Rattle.model.specs.Sheet.{agentsOf, choresOf};
 ghost use Rattle.model.specs.MostMoves.{mostMoves};
 ghost use Rattle.model.specs.Refusals.{recordedRefusal};
@@ -9,27 +8,14 @@ ghost use Rattle.model.specs.Promises.{Recorded};
 ghost use Rattle.sheet.specs.Valid.{Valid};
 ghost use Rattle.recorded.specs.Moves.{movesFor};
 
-// Only their lengths count.
-fn own_owners() -> [u8; model::MAX_CHORES]
-    ensures { λ r. ⌜ length r ≡ maxChores ⌝ }
-{
-    [0; model::MAX_CHORES]
-}
-
-fn own_prices() -> [u32; model::MAX_CHORES]
-    ensures { λ r. ⌜ length r ≡ maxChores ⌝ }
-{
-    [0; model::MAX_CHORES]
-}
-
 // How many moves a share-out takes, by a run on lists of its own: nothing lent may be written before the record is known to have room.
 fn count_moves(sheet: &[u8]) -> u64
     requires { ⌜ Valid (now sheet) ⌝ }
     ensures { λ r. ⌜ r ≡ length (movesFor (now (sheet .entry))) ⌝ }
 {
     let m = sheet::chores(sheet);
-    let mut owners = own_owners();
-    let mut prices = own_prices();
+    let mut owners = totals::no_owners();
+    let mut prices = totals::no_prices();
     let mut scratch = totals::no_scratch();
     let mut unrecorded = [0u8; 0];
     let counts = allocation::share(

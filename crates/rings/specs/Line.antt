@@ -12,7 +12,7 @@ use Rattle.finite.specs.Lists.{passing}
 use Rattle.model.specs.Limits.{maxAgents, scratchSize}
 
 module _ (n : ℕ) (ring : ℕ → ℕ → Bool) where
-  -- everyone at a distance below t, ring by ring, and in a ring by number
+  -- everyone at a distance below t, ring by ring, and in a ring by number: "Every remaining tie goes to the lowest number."
   unfoldable pub ringsBefore : ℕ → List ℕ
   ringsBefore zero = []
   ringsBefore (suc t) = ringsBefore t ++ passing n (ring t)

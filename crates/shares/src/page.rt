@@ -64,8 +64,8 @@ pub fn sheet_text(book: &[u8], j: usize, out: &mut [u8]) -> SheetText
     ensures { λ r. ⌜ SheetShown printer (now (book .entry)) j (now (out .exit)) r ⌝ }
 {
     let sheet = contents::sheet_at(book, j);
-    let mut owners = pages::no_owners();
-    let mut prices = pages::no_prices();
+    let mut owners = totals::no_owners();
+    let mut prices = totals::no_prices();
     let mut scratch = totals::no_scratch();
     let answer = allocation::allocate(sheet, &mut owners, &mut prices, &mut scratch);
     let end = answer_text(sheet, j as u64 + 1, answer, &owners, &prices, out);

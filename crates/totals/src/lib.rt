@@ -5,7 +5,7 @@ ghost use Prim.Native.Nat.{_≤_, _<_};
 ghost use lib.Dec.{ltb};
 ghost use lib.ListN.{length, getD, replicate};
 ghost use Rattle.finite.specs.Search.{firstBelow, chosen};
-ghost use Rattle.model.specs.Limits.{maxAgents, scratchSize};
+ghost use Rattle.model.specs.Limits.{maxAgents, maxChores, scratchSize};
 ghost use Rattle.totals.specs.Totals.{Parts, TakenOff, Summing, Summed};
 
 // A number for each agent. Made in a function of its own, so that its entries are one value where it is used.
@@ -15,7 +15,19 @@ pub fn zeros() -> [u32; model::MAX_AGENTS]
     [0; model::MAX_AGENTS]
 }
 
-// Scratch for a share-out that is lent none. Only its length counts.
+// Lists for a share-out that is lent none. Each is made by a function of its own, whose contract tells its length and spares the callers its entries.
+pub fn no_owners() -> [u8; model::MAX_CHORES]
+    ensures { λ r. ⌜ maxChores ≡ length r ⌝ }
+{
+    [0; model::MAX_CHORES]
+}
+
+pub fn no_prices() -> [u32; model::MAX_CHORES]
+    ensures { λ r. ⌜ maxChores ≡ length r ⌝ }
+{
+    [0; model::MAX_CHORES]
+}
+
 pub fn no_scratch() -> [u8; model::SCRATCH_SIZE]
     ensures { λ r. ⌜ scratchSize ≡ length r ⌝ }
 {

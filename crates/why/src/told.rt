@@ -19,8 +19,8 @@ fn opening_owners(sheet: &[u8], owners: &mut [u8])
 {
     let n = sheet::agents(sheet);
     let m = sheet::chores(sheet);
-    let mut prices = pages::no_prices();
-    let mut likes = pages::no_prices();
+    let mut prices = totals::no_prices();
+    let mut likes = totals::no_prices();
     open(sheet, n, m, owners, &mut prices[0..m], &mut likes[0..m]);
 }
 
@@ -82,7 +82,7 @@ fn shared_text(
 {
     let m = sheet::chores(sheet);
     let end = model::MOVE_SIZE * count as usize;
-    let mut opened = pages::no_owners();
+    let mut opened = totals::no_owners();
     opened_text(
         sheet,
         number,

@@ -1,5 +1,6 @@
 -- `book::allocate_book` meets its contract: a refused book by its number, any other by what its sheets leave.
 -- Assumes nothing.
+use mathlib.Core.Path.{sym}
 use borrow.Author.Needs.{needs}
 use Rattle.book.proofs.Outcome.{fine-book, book-refused, book-shared}
 use Rattle.book.proofs.allocate_book.Statement.{statement}
@@ -27,8 +28,8 @@ returns c = book-refused _ _ (c .before .before .before .before .before .before 
 clear-requires : tie.Need-clear-requires
 clear-requires c κs = search needs
 
-for-chores-requires : tie.Need-for-chores-requires
-for-chores-requires c κs = search needs
+no-prices-requires : tie.Need-no-prices-requires
+no-prices-requires c κs = search needs
 
 slice-aggregate-share-sheets : tie.Need-slice-aggregate-share-sheets
 slice-aggregate-share-sheets c = search needs
@@ -36,7 +37,7 @@ slice-aggregate-share-sheets c = search needs
 share-sheets-requires : tie.Need-share-sheets-requires
 share-sheets-requires c κs =
     let at = c .before .before .before .before .before .before .before in
-    fine-book _ _ _ (start at .args .scratch .now) (judged at .book-refusal .ensures) (fine at .if1 .left) (at .clear .ensures) (c .before .before .before .before .for-chores .ensures)
+    fine-book _ _ _ (start at .args .scratch .now) (judged at .book-refusal .ensures) (fine at .if1 .left) (at .clear .ensures) (sym (c .before .before .before .before .no-prices .ensures))
 
 same-length : tie.Need-same-length
 same-length c = search needs
@@ -60,7 +61,7 @@ allocate-book-spec =
     turned-down-requires
     returns
     clear-requires
-    for-chores-requires
+    no-prices-requires
     slice-aggregate-share-sheets
     share-sheets-requires
     same-length

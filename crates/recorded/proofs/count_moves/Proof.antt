@@ -8,11 +8,11 @@ use Rattle.recorded.proofs.count_moves.Tie as tie
 chores-requires : tie.Need-chores-requires
 chores-requires c κs = search needs
 
-own-owners-requires : tie.Need-own-owners-requires
-own-owners-requires c κs = search needs
+no-owners-requires : tie.Need-no-owners-requires
+no-owners-requires c κs = search needs
 
-own-prices-requires : tie.Need-own-prices-requires
-own-prices-requires c κs = search needs
+no-prices-requires : tie.Need-no-prices-requires
+no-prices-requires c κs = search needs
 
 no-scratch-requires : tie.Need-no-scratch-requires
 no-scratch-requires c κs = search needs
@@ -55,8 +55,8 @@ count-moves-spec =
     tie.close
     (tie.spec
     chores-requires
-    own-owners-requires
-    own-prices-requires
+    no-owners-requires
+    no-prices-requires
     no-scratch-requires
     sub-share
     part-owners-start
