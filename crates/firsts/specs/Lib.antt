@@ -1,0 +1,3 @@
+pub mod Traits
+pub mod Table
+pub mod Dearest

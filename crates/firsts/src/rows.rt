@@ -1,0 +1,51 @@
+// The rows of the table, a place for each trait. A set of traits is the bits of a word, which are gone through from the lowest on.
+ghost use Prim.Native.Nat.{_+_, _*_, _≤_, _<_};
+ghost use mathlib.Core.Bool.{_&&_};
+ghost use mathlib.Core.Path.{_≡_};
+ghost use lib.Dec.{leb};
+ghost use lib.ListN.{length, getD};
+ghost use Rattle.finite.specs.Bits.{bit, SetOf};
+ghost use Rattle.model.specs.Limits.{maxAgents, maxChores};
+ghost use Rattle.firsts.specs.Traits.{traitCount};
+ghost use Rattle.firsts.specs.Table.{Spot, Put, Gained};
+use crate::traits::TRAITS;
+
+// The traits of a set that no chore before c has in agent w's row.
+pub fn not_before(first: &[u16], w: usize, c: usize, word: u64) -> u64
+    requires { ⌜ Spot (now first) w word ⌝ }
+    ensures { λ r. ⌜ SetOf traitCount r (λ t. bit word t && leb c (getD (now (first .entry)) (w * traitCount + t) 0)) ⌝ }
+{
+    let mut found = 0u64;
+    let mut rest = word;
+    while rest != 0 {
+        let t = u64::trailing_zeros(rest) as usize;
+        if first[w * TRAITS + t] as usize >= c {
+            found = found | (1u64 << t);
+        }
+        rest = rest - (1u64 << t);
+    }
+    found
+}
+
+// Chore c becomes the first with these traits.
+pub fn put(first: &mut [u16], w: usize, c: usize, word: u64)
+    requires { ⌜ Spot (now first) w word × (c ≤ maxChores) ⌝ }
+    ensures { λ r. ⌜ Put w c word (now (first .entry)) (now (first .exit)) ⌝ }
+{
+    let mut rest = word;
+    while rest != 0 {
+        let t = u64::trailing_zeros(rest) as usize;
+        first[w * TRAITS + t] = c as u16;
+        rest = rest - (1u64 << t);
+    }
+}
+
+// Agent w gains chore c, which has these traits: the earlier chore is the first.
+pub fn gain(first: &mut [u16], sets: &mut [u64], w: usize, c: usize, word: u64)
+    requires { ⌜ Spot (now first) w word × (c ≤ maxChores) × (length (now sets) ≡ maxAgents) ⌝ }
+    ensures { λ r. ⌜ Gained w c word (now (first .entry)) (now (sets .entry)) (now (first .exit)) (now (sets .exit)) ⌝ }
+{
+    let new = not_before(first, w, c, word);
+    put(first, w, c, new);
+    sets[w] = sets[w] | word;
+}
