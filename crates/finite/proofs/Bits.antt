@@ -6,13 +6,13 @@ use mathlib.Core.Path.{_≡_, refl, sym, ap, ap₂, _∙_}
 use native.Mathlib.Nat.{le-refl, lt-of-lt-of-le, div-eq-of-lt, div-self, zero-div, div-one, div-div-eq-div-mul, mul-comm, mod-lt, mod-eq-of-lt, mul-add-mod-self-right, mul-mod-left, one-mul, pow-suc, mul-div-cancel}
 use native.Mathlib.Numerals.{add-one}
 use native.Mathlib.Omega.{arith}
-use lib.Bits.{bitAnd, bitOr, and-step, or-step, and-shr, or-shr, and-lt, or-lt}
+use lib.Bits.{bitAnd, bitOr, bitXor, differ, and-step, or-step, xor-step, and-shr, or-shr, xor-shr, and-lt, or-lt, xor-lt}
 use lib.Pow.{pow-pos, pow-mono, pow-lt, pow-add}
 use lib.Dec.{eqb}
 use borrow.Author.Tests.{eq-eqb, ne-eqb}
 use Rattle.finite.specs.Bits.{bit, SetOf}
 use Rattle.finite.specs.Search.{anyBelow}
-use Rattle.finite.proofs.Tests.{not-no, or-right}
+use Rattle.finite.proofs.Tests.{not-no, or-right, or-false}
 use Rattle.finite.proofs.Below.{none-below, by-top, by-less, by-same}
 use Rattle.finite.proofs.Search.{any-none, any-none-intro}
 
@@ -36,6 +36,19 @@ or-digit x y h l =
     by-digit h
     (λ e. by-digit l (λ f. rw (e, f)) (λ f. rw (e, f)))
     (λ e. by-digit l (λ f. rw (e, f)) (λ f. rw (e, f)))
+
+-- the second changes the first
+xor-digit : (x y : ℕ) → x < 2 → y < 2 → eqb (differ x y) 1 ≡ cond (eqb y 1) (not (eqb x 1)) (eqb x 1)
+xor-digit x y h l =
+    by-digit h
+    (λ e. by-digit l (λ f. rw (e, f)) (λ f. rw (e, f)))
+    (λ e. by-digit l (λ f. rw (e, f)) (λ f. rw (e, f)))
+
+differ-lt : (x y : ℕ) → x < 2 → y < 2 → differ x y < 2
+differ-lt x y h l =
+    by-digit h
+    (λ e. by-digit l (λ f. rw (e, f) (omega arith)) (λ f. rw (e, f) (omega arith)))
+    (λ e. by-digit l (λ f. rw (e, f) (omega arith)) (λ f. rw (e, f) (omega arith)))
 
 same-digit : (x y : ℕ) → x < 2 → y < 2 → eqb x 1 ≡ eqb y 1 → x ≡ y
 same-digit x y h l q =
@@ -68,6 +81,15 @@ bit-or a b i =
     ap (λ v. eqb (v % 2) 1) (or-shr a b i ∙ or-step x y)
     ∙ ap (λ v. eqb v 1) (last-digit (bitOr (x / 2) (y / 2)) (max (x % 2) (y % 2)) l)
     ∙ or-digit (x % 2) (y % 2) (digit-lt x) (digit-lt y)
+
+pub bit-xor : (a b i : ℕ) → bit (bitXor a b) i ≡ cond (bit b i) (not (bit a i)) (bit a i)
+unfolding bit
+bit-xor a b i =
+    let x = a / 2 ^ i in
+    let y = b / 2 ^ i in
+    ap (λ v. eqb (v % 2) 1) (xor-shr a b i ∙ xor-step x y)
+    ∙ ap (λ v. eqb v 1) (last-digit (bitXor (x / 2) (y / 2)) (differ (x % 2) (y % 2)) (differ-lt (x % 2) (y % 2) (digit-lt x) (digit-lt y)))
+    ∙ xor-digit (x % 2) (y % 2) (digit-lt x) (digit-lt y)
 
 pub bit-zero : (i : ℕ) → bit 0 i ≡ false
 unfolding bit
@@ -125,10 +147,6 @@ shift-one {i} {w} l = ap (λ v. v % 2 ^ w) (one-mul (2 ^ i)) ∙ mod-eq-of-lt (p
 
 -- sets of numbers as words
 
-or-false : (b : Bool) → b || false ≡ b
-or-false true = refl
-or-false false = refl
-
 pub set-none : (n : ℕ) → SetOf n 0 (λ i. false)
 set-none n = record { below = pow-pos n; member = λ i l. bit-zero i }
 
@@ -152,6 +170,20 @@ set-or {n} {v} {w} s r =
       below = or-lt n v w (s .below) (r .below);
       member = λ i l. bit-or v w i ∙ ap₂ _||_ (s .member i l) (r .member i l);
     }
+
+-- members taken off
+pub set-off : {n v w : ℕ} {t u : ℕ → Bool} → SetOf n v t → SetOf n w u → ((i : ℕ) → i < n → u i ≡ true → t i ≡ true) → SetOf n (bitXor v w) (λ i. t i && not (u i))
+set-off {n} {v} {w} {t} {u} s r part =
+    record {
+      below = xor-lt n v w (s .below) (r .below);
+      member = λ i l. bit-xor v w i ∙ ap₂ (λ a b. cond b (not a) a) (s .member i l) (r .member i l) ∙ off (t i) (u i) (part i l);
+    }
+  where
+    off : (a b : Bool) → (b ≡ true → a ≡ true) → cond b (not a) a ≡ (a && not b)
+    off true true h = refl
+    off true false h = refl
+    off false true h = sym (h refl)
+    off false false h = refl
 
 -- a number more
 pub set-insert : {n w k : ℕ} {t : ℕ → Bool} → SetOf n w t → k < n → SetOf n (bitOr w (2 ^ k)) (λ i. t i || eqb i k)

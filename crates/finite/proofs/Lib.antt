@@ -16,5 +16,6 @@ pub mod Running
 pub mod Reach
 pub mod Distances
 pub mod Bits
+pub mod LowestBit
 pub mod Packed
 pub mod Shifts

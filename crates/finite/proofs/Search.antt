@@ -1,15 +1,15 @@
 -- Laws of the tests and searches over the numbers below a bound.
 -- Assumes nothing.
-use Prim.Native.Nat.{ℕ, zero, suc, _+_, _≤_, _<_}
+use Prim.Native.Nat.{ℕ, zero, suc, _+_, _≤_, _<_, min}
 use mathlib.Core.Bool.{Bool, true, false, _&&_, _||_}
-use mathlib.Core.Path.{_≡_, refl, sym, ap, ap₂}
+use mathlib.Core.Path.{_≡_, refl, sym, ap, ap₂, _∙_}
 use native.Mathlib.Nat.{le-refl, le-antisymm, lt-of-lt-of-le, lt-of-le-of-lt}
 use native.Mathlib.Numerals.{add-one}
 use native.Mathlib.Omega.{arith}
-use lib.Dec.{ltb}
-use borrow.Author.Tests.{ltb-true, ltb-false, lt-ltb, le-ltb}
+use lib.Dec.{eqb, ltb}
+use borrow.Author.Tests.{ltb-true, ltb-false, lt-ltb, le-ltb, ne-eqb}
 use Rattle.finite.specs.Search.{anyBelow, allBelow, firstStep, firstBelow, Hit, Miss, First}
-use Rattle.finite.proofs.Tests.{by-test, by-cond, clash, bool-eq, fails-of, not-yes, and-elim, and-intro, and-cases, or-cases, or-left, or-right}
+use Rattle.finite.proofs.Tests.{by-test, by-cond, clash, bool-eq, fails-of, not-yes, and-elim, and-intro, and-cases, or-cases, or-left, or-right, or-none-intro, eqb-same}
 use Rattle.finite.proofs.Below.{none-below, by-top, lower, by-less}
 
 -- anyBelow
@@ -169,3 +169,17 @@ pub first-cong : (n : ℕ) {t u : ℕ → Bool} → ((i : ℕ) → i < n → t i
 unfolding firstBelow
 first-cong zero h = refl
 first-cong (suc k) h = ap₂ (firstStep k) (h k (le-refl _)) (first-cong k (lower h))
+
+-- the first below k is the first below n too
+pub first-on : {k n : ℕ} (t : ℕ → Bool) → k ≤ n → firstBelow k t < k → firstBelow n t ≡ firstBelow k t
+first-on {k} {n} t h l = first-unique (record { below = omega arith; passes = first-passes k t l; before = first-before k t })
+
+-- one number more passes
+pub first-more : {n c : ℕ} (t : ℕ → Bool) → c < n → firstBelow n (λ d. t d || eqb d c) ≡ min c (firstBelow n t)
+first-more {n} {c} t l =
+    let r = firstBelow n t in
+    by-less c r
+    (λ h. let e : c ≡ min c r = omega arith in
+    first-unique (record { below = l; passes = or-right (t c) (eqb-same c); before = λ i m. or-none-intro (first-before n t i (omega arith)) (ne-eqb i c (λ q. omega arith)) }) ∙ e)
+    (λ h. let b : r < n = omega arith in let e : r ≡ min c r = omega arith in
+    first-unique (record { below = b; passes = or-left (eqb r c) (first-passes n t b); before = λ i m. or-none-intro (first-before n t i m) (ne-eqb i c (λ q. omega arith)) }) ∙ e)

@@ -63,7 +63,15 @@ pub and-no-right : (a : Bool) {b : Bool} → b ≡ false → a && b ≡ false
 and-no-right true h = h
 and-no-right false h = refl
 
+pub and-true : (b : Bool) → b && true ≡ b
+and-true true = refl
+and-true false = refl
+
 -- or
+
+pub or-false : (b : Bool) → b || false ≡ b
+or-false true = refl
+or-false false = refl
 
 pub or-cases {ℓ} : {A : Type ℓ} (a b : Bool) → a || b ≡ true → (a ≡ true → A) → (b ≡ true → A) → A
 or-cases true b e left right = left refl

@@ -1,6 +1,6 @@
 -- The table of first chores. x gives each chore's owner, and `trait t c` says that chore c has trait t.
 use Prim.Native.Nat.{ℕ, _+_, _*_, _^_, _≤_, _<_, min}
-use mathlib.Core.Bool.{Bool, cond, not, _&&_}
+use mathlib.Core.Bool.{Bool, true, cond, not, _&&_}
 use mathlib.Core.List.{List}
 use mathlib.Core.Path.{_≡_}
 use lib.Bits.{bitOr}
@@ -78,11 +78,11 @@ pub record SearchedOn (m : ℕ) (x : ℕ → ℕ) (trait : ℕ → ℕ → Bool)
       → getD first′ (v * traitCount + t) 0 ≡ cond (eqb v w && (bit missing t && ltb (firstAfter m x trait w c t) m)) (firstAfter m x trait w c t) (getD first (v * traitCount + t) 0)
   pub notFound : SetOf traitCount left (λ t. bit missing t && not (ltb (firstAfter m x trait w c t) m))
 
--- Agent w has lost chore c: of any rows, its own is that without c, and every other as it was.
+-- Agent w has lost chore c, which it owned: of any rows, its own is that without c, and every other as it was.
 pub record Lost (m : ℕ) (x : ℕ → ℕ) (trait : ℕ → ℕ → Bool) (w c : ℕ) (first sets first′ sets′ : List ℕ) : Type 0 where
   pub size : length first′ ≡ length first
   pub setsSize : length sets′ ≡ length sets
-  pub own : Row m (owns x w) trait w first sets → Row m (λ d. owns x w d && not (eqb d c)) trait w first′ sets′
+  pub own : owns x w c ≡ true → Row m (owns x w) trait w first sets → Row m (λ d. owns x w d && not (eqb d c)) trait w first′ sets′
   pub others : (v t : ℕ) → v < maxAgents → t < traitCount → (v ≡ w → ⊥) → getD first′ (v * traitCount + t) 0 ≡ getD first (v * traitCount + t) 0
   pub otherSets : (v : ℕ) → (v ≡ w → ⊥) → getD sets′ v 0 ≡ getD sets v 0
 

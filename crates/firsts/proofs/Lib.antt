@@ -1,0 +1,9 @@
+pub mod Clearing
+pub mod Held
+pub mod AgentRow
+pub mod Filling
+pub mod Searching
+pub mod Losing
+pub mod Handing
+pub mod Placing
+pub mod DearestIn
