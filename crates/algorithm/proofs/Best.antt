@@ -2,6 +2,7 @@
 -- Assumes nothing.
 use Prim.Native.Nat.{ℕ, _+_, _*_, _≤_, _<_}
 use mathlib.Core.Bool.{Bool, true, false, cond, not, _&&_, _||_}
+use mathlib.Core.Logic.{_⊎_, inl, inr}
 use mathlib.Core.Path.{_≡_, refl, sym, ap, _∙_}
 use native.Mathlib.Nat.{mul-le-mul, mul-le-mul-left, le-refl, le-of-eq}
 use native.Mathlib.Omega.{arith}
@@ -23,6 +24,15 @@ use Rattle.algorithm.specs.Core.{Core}
 pub free-uncut : {I : Instance} {x p group : ℕ → ℕ} {cut : ℕ → Bool} → Core I x p group cut → (c : ℕ) → c < I .m → group (x c) ≡ 0 → cut c ≡ false
 free-uncut {cut} K c h g = not-yes (cut c) (λ t. omega (arith, K .cutInGroup c h t))
 
+-- prices are of three kinds
+pub three-prices : {I : Instance} {x p group : ℕ → ℕ} {cut : ℕ → Bool} → Core I x p group cut → (c : ℕ) → c < I .m → (p c ≡ I .a * I .a) ⊎ ((p c ≡ I .a * I .b) ⊎ (p c ≡ I .b * I .b))
+unfolding kindPrice level
+three-prices {I} {cut} K c h =
+    let e = K .priced c h in
+    by-test (cut c)
+    (λ q. by-test (dear I c) (λ d. inr (inl (rw (q, d) at e))) (λ d. inl (rw (q, d) at e)))
+    (λ q. by-test (dear I c) (λ d. inr (inr (rw (q, d) at e))) (λ d. inr (inl (rw (q, d) at e))))
+
 by-zero {ℓ} : {A : Type ℓ} (g : ℕ) → (g ≡ 0 → A) → (0 < g → A) → A
 by-zero g none some = by-less 0 g some (λ h. none (omega arith))
 
@@ -41,7 +51,7 @@ all-top {n} {f} {l} t r =
     (λ e. all-intro n (λ i. leb (f i) r) (λ i h. le-leb (f i) r (omega (arith, t .above i h, leb-true l r e))))
 
 module _ {I : Instance} (S : Sound I) where
-  squares : (0 < I .a * I .a) × (I .a * I .a < I .a * I .b) × (I .a * I .b < I .b * I .b)
+  pub squares : (0 < I .a * I .a) × (I .a * I .a < I .a * I .b) × (I .a * I .b < I .b * I .b)
   squares =
       let h : I .a * 1 ≤ I .a * I .a = mul-le-mul-left (I .a) (S .positive) in
       let k : I .a * (I .a + 1) ≤ I .a * I .b = mul-le-mul-left (I .a) (omega (arith, S .easier)) in

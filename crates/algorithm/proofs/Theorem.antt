@@ -1,13 +1,10 @@
 -- Demand 3: the theorem on Algorithm 1, for every sheet that breaks no rule.
 -- Assumes nothing.
-use Prim.Native.Nat.{ℕ, _*_, _<_}
-use mathlib.Core.Bool.{Bool}
+use Prim.Native.Nat.{ℕ}
 use mathlib.Core.List.{List}
-use mathlib.Core.Logic.{_⊎_, inl, inr}
 use mathlib.Core.Path.{_≡_, subst}
 use native.Mathlib.Omega.{arith}
 use Rattle.finite.specs.Lists.{Picks}
-use Rattle.finite.proofs.Tests.{by-test}
 use Rattle.model.specs.Instance.{Instance, ownerOf}
 use Rattle.model.specs.Sheet.{asMarked, asRead}
 use Rattle.model.specs.Algorithm.{State, Ends}
@@ -16,11 +13,10 @@ use Rattle.model.specs.Promises.{Demand3, FewMoves}
 use Rattle.model.proofs.Unique.{unique}
 use Rattle.model.proofs.Allocations.{picks-allocation}
 use Rattle.welfare.proofs.AcceptedSheet.{accepted-fair}
-use Rattle.algorithm.specs.Kinds.{dear, level, kindPrice}
-use Rattle.algorithm.specs.Core.{Core}
 use Rattle.algorithm.specs.Reached.{Reached}
 use Rattle.algorithm.specs.Theorem.{Theorem}
 use Rattle.algorithm.proofs.Reading.{sheet-sound}
+use Rattle.algorithm.proofs.Best.{three-prices}
 use Rattle.algorithm.proofs.End.{check-accepted}
 use Rattle.algorithm.proofs.Machine.{fewer-cuts, moves-bound, clean-cut}
 use Rattle.algorithm.proofs.Begin.{opening-reached}
@@ -36,15 +32,6 @@ picks R =
       positive = R .shaped .numbered;
       bounded = λ c h. omega (arith, R .core .owner c h, R .shaped .numbered c h);
     }
-
--- the prices of a reached state are of three kinds
-three : {I : Instance} {x p group : ℕ → ℕ} {cut : ℕ → Bool} → Core I x p group cut → (c : ℕ) → c < I .m → (p c ≡ I .a * I .a) ⊎ ((p c ≡ I .a * I .b) ⊎ (p c ≡ I .b * I .b))
-unfolding kindPrice level
-three {I} {cut} K c h =
-    let e = K .priced c h in
-    by-test (cut c)
-    (λ q. by-test (dear I c) (λ d. inr (inl (rw (q, d) at e))) (λ d. inl (rw (q, d) at e)))
-    (λ q. by-test (dear I c) (λ d. inr (inr (rw (q, d) at e))) (λ d. inr (inl (rw (q, d) at e))))
 
 few-moves : {s : List ℕ} {x : State} → Reached (asRead s) x → FewMoves s x
 unfolding asRead
@@ -74,7 +61,7 @@ theorem s valid =
             undominated = fair .1;
             passes = passes;
           };
-      kinds = three (R .core);
+      kinds = three-prices (R .core);
       clean = λ k y e q. clean-cut (reached S O k y e) S q;
       few = few-moves R;
     }

@@ -3,10 +3,10 @@
 use Prim.Native.Nat.{ℕ, zero, suc, _+_, _-_, _*_, _/_, _%_, _^_, _≤_, _<_, min, max}
 use mathlib.Core.Bool.{Bool, true, false, cond, not, _&&_, _||_, true≢false, false≢true}
 use mathlib.Core.Path.{_≡_, refl, sym, ap, ap₂, _∙_}
-use native.Mathlib.Nat.{le-refl, lt-of-lt-of-le, div-eq-of-lt, div-self, zero-div, div-one, div-div-eq-div-mul, mul-comm, mod-lt, mod-eq-of-lt, mul-add-mod-self-right, mul-mod-left, one-mul, pow-suc, mul-div-cancel}
+use native.Mathlib.Nat.{le-refl, lt-of-le-of-lt, lt-of-lt-of-le, div-eq-of-lt, div-self, zero-div, div-one, div-div-eq-div-mul, mul-comm, mod-lt, mod-eq-of-lt, mul-add-mod-self-right, mul-mod-left, one-mul, pow-suc, mul-div-cancel}
 use native.Mathlib.Numerals.{add-one}
 use native.Mathlib.Omega.{arith}
-use lib.Bits.{bitAnd, bitOr, bitXor, differ, and-step, or-step, xor-step, and-shr, or-shr, xor-shr, and-lt, or-lt, xor-lt}
+use lib.Bits.{bitAnd, bitOr, bitXor, differ, and-step, or-step, xor-step, and-shr, or-shr, xor-shr, and-le-r, or-lt, xor-lt}
 use lib.Pow.{pow-pos, pow-mono, pow-lt, pow-add}
 use lib.Dec.{eqb}
 use borrow.Author.Tests.{eq-eqb, ne-eqb}
@@ -157,12 +157,16 @@ set-zero t = record { below = pow-pos 0; member = λ i l. none-below l }
 pub set-cong : {n w : ℕ} {t u : ℕ → Bool} → ((i : ℕ) → i < n → t i ≡ u i) → SetOf n w t → SetOf n w u
 set-cong e s = record { below = s .below; member = λ i l. s .member i l ∙ e i l }
 
-pub set-and : {n v w : ℕ} {t u : ℕ → Bool} → SetOf n v t → SetOf n w u → SetOf n (bitAnd v w) (λ i. t i && u i)
-set-and {n} {v} {w} s r =
+-- of the bits of any word, those that a set holds
+pub set-within : (v : ℕ) {n w : ℕ} {t u : ℕ → Bool} → ((i : ℕ) → i < n → bit v i ≡ t i) → SetOf n w u → SetOf n (bitAnd v w) (λ i. t i && u i)
+set-within v {w = w} s r =
     record {
-      below = and-lt n v w (s .below) (r .below);
-      member = λ i l. bit-and v w i ∙ ap₂ _&&_ (s .member i l) (r .member i l);
+      below = lt-of-le-of-lt (and-le-r v w) (r .below);
+      member = λ i l. bit-and v w i ∙ ap₂ _&&_ (s i l) (r .member i l);
     }
+
+pub set-and : {n v w : ℕ} {t u : ℕ → Bool} → SetOf n v t → SetOf n w u → SetOf n (bitAnd v w) (λ i. t i && u i)
+set-and {v = v} s r = set-within v (s .member) r
 
 pub set-or : {n v w : ℕ} {t u : ℕ → Bool} → SetOf n v t → SetOf n w u → SetOf n (bitOr v w) (λ i. t i || u i)
 set-or {n} {v} {w} s r =

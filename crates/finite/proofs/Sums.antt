@@ -76,6 +76,12 @@ unfolding sumTo
 sum-point {n = zero} f k l = none-below l
 sum-point {n = suc j} f k l = by-top l (λ e. rw e (omega arith)) (λ l′. omega (arith, sum-point f k l′))
 
+-- a sum so far with the next is part of the whole
+pub sum-part : {n : ℕ} (f : ℕ → ℕ) (k : ℕ) → k < n → sumTo k f + f k ≤ sumTo n f
+unfolding sumTo
+sum-part {n = zero} f k l = none-below l
+sum-part {n = suc j} f k l = by-top l (λ e. rw e (omega arith)) (λ l′. omega (arith, sum-part f k l′))
+
 -- some point below n where f is less than g
 pub record Less (n : ℕ) (f g : ℕ → ℕ) : Type 0 where
   pub index : ℕ

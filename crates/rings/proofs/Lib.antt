@@ -1,5 +1,3 @@
-pub mod Offering
-pub mod Wanting
 pub mod InLine
 pub mod Started
 pub mod Ringed

@@ -16,7 +16,7 @@ use Rattle.finite.proofs.Tests.{by-test, bool-eq, clash, and-elim, and-intro, a
 use Rattle.finite.proofs.Below.{by-top, by-less, by-same}
 use Rattle.finite.proofs.Search.{any-intro, any-elim, any-none-intro, first-unique}
 use Rattle.finite.proofs.Distances.{reach-distance}
-use Rattle.finite.proofs.Bits.{set-and, set-cong, set-some}
+use Rattle.finite.proofs.Bits.{set-within, set-cong, set-some}
 use Rattle.model.specs.Limits.{maxAgents, scratchSize}
 use Rattle.model.specs.Instance.{Instance}
 use Rattle.model.specs.Prices.{priceUpToOne}
@@ -134,7 +134,7 @@ module _ {I : Instance} {x p : ℕ → ℕ} {offers sums ups : List ℕ} {least 
   module _ {t end : ℕ} {lent scratch : List ℕ} {i ring : ℕ} (l : i < I .n) (R : Ringed I x p (suc t) i end lent scratch) (here : SetOf (I .n) ring (atDistance I x p t)) where
     -- those of the ring for whom agent i has an offer
     pub taken-at : SetOf (I .n) (bitAnd (getD offers i 0) ring) (λ j. supplies I x p i j && atDistance I x p t j)
-    taken-at = set-and (S .offered i l) here
+    taken-at = set-within (getD offers i 0) (λ j h. S .offered i j l h) here
 
     -- whoever is not reached and has an offer for the ring is in the next one
     next-at : inNextRing offers ring scratch i ≡ atDistance I x p (suc t) i

@@ -1,4 +1,2 @@
-pub mod Words
-pub mod Offers
 pub mod Line
 pub mod Search

@@ -1,10 +1,10 @@
--- The search of 2b over offers.
+-- The search of 2b over offers: for each agent the set of those who want one of its chores.
 use Prim.Native.Nat.{ℕ, suc, _-_, _≤_, _<_}
 use mathlib.Core.Bool.{true, false, _&&_}
 use mathlib.Core.List.{List}
 use mathlib.Core.Path.{_≡_}
 use lib.ListN.{length, getD}
-use Rattle.finite.specs.Bits.{SetOf}
+use Rattle.finite.specs.Bits.{bit, SetOf}
 use Rattle.model.specs.Limits.{maxAgents, scratchSize}
 use Rattle.model.specs.Instance.{Instance}
 use Rattle.model.specs.Prices.{priceSum, priceUpToOne}
@@ -22,7 +22,8 @@ pub record Lists (n : ℕ) (offers sums ups scratch : List ℕ) : Type 0 where
 -- What the search starts from, in the market I with owners x and prices p.
 pub record Searching (I : Instance) (x p : ℕ → ℕ) (offers sums ups : List ℕ) (least : ℕ) : Type 0 where
   pub some : 0 < I .n
-  pub offered : (i : ℕ) → i < I .n → SetOf (I .n) (getD offers i 0) (supplies I x p i)
+  -- of the bits of an offer those of agents count
+  pub offered : (i j : ℕ) → i < I .n → j < I .n → bit (getD offers i 0) j ≡ supplies I x p i j
   pub sum : (i : ℕ) → i < I .n → getD sums i 0 ≡ priceSum (I .m) x p i
   pub up : (i : ℕ) → i < I .n → getD ups i 0 ≡ priceUpToOne (I .m) x p i
   pub leastIs : least ≡ leastSum I x p

@@ -1,4 +1,3 @@
 // The search of step 2b: rings of agents around those of least sum.
 pub mod line;
-pub mod offers;
 pub mod search;

@@ -12,7 +12,7 @@ pub struct Found {
 // leaves all rings as soon as somebody above the least sum does.
 pub fn search(
     n: usize,
-    offers: &[u32],
+    offers: &[u64],
     sums: &[u32],
     ups: &[u32],
     least: u32,
@@ -31,7 +31,7 @@ pub fn search(
         let mut end = to;
         let mut i = 0;
         while i < n {
-            let wanting = offers[i] & ring;
+            let wanting = (offers[i] & ring as u64) as u32;
             if wanting != 0 && scratch[i] == 0 {
                 line::take_place(scratch, end, i, further);
                 end += 1;

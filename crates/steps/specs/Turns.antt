@@ -1,15 +1,17 @@
 -- What a turn of the loop is given, and what it names: one step of Algorithm 1 on a state of lists.
-use Prim.Native.Nat.{ℕ, _+_, _-_, _<_}
+use Prim.Native.Nat.{ℕ, _+_, _*_, _-_, _<_}
 use mathlib.Core.List.{List}
 use mathlib.Core.Path.{_≡_}
 use lib.ListN.{length, getD}
 use Rattle.model.specs.Instance.{ownerOf, priceOf}
-use Rattle.model.specs.Sheet.{agentsOf, choresOf, asRead}
+use Rattle.model.specs.Sheet.{agentsOf, choresOf, easyWeight, difficultWeight, asRead}
 use Rattle.model.specs.Algorithm.{State, Action, hand, pass, cut, stop, Outcome, busy, done, action, step}
 use Rattle.sheet.specs.Valid.{Valid}
 use Rattle.algorithm.specs.Core.{Core}
 use Rattle.algorithm.specs.Reached.{Reached}
-use Rattle.market.specs.Market.{groupOf, entitledOf, Liked}
+use Rattle.market.specs.Market.{groupOf, entitledOf, ByGroup, Liked}
+use Rattle.firsts.specs.Traits.{hasTrait}
+use Rattle.firsts.specs.Table.{Sized, Listed, Firsts}
 use Rattle.steps.specs.declared.Turn.{Turn}
 use Rattle.steps.specs.declared.Turn.the-variants.{Moved, Passed, Cut, Ended}
 
@@ -42,13 +44,30 @@ pub record Ready (s owners prices groups entitled likes : List ℕ) : Type 0 whe
   pub core : Core (asRead s) (ownerOf owners) (priceOf prices) (groupOf groups) (entitledOf entitled)
   pub liking : Liked (asRead s) likes
 
--- a state that Algorithm 1 reaches on the sheet s
-pub record Turning (s owners prices groups entitled likes : List ℕ) (cuts stage : ℕ) : Type 0 where
+-- what the table is worked out from
+pub record Filling (s owners prices groups entitled likes first sets : List ℕ) : Type 0 where
+  pub valid : Valid s
+  pub ownersSized : length owners ≡ choresOf s
+  pub groupsSized : length groups ≡ agentsOf s
+  pub listed : Listed (agentsOf s) owners prices entitled likes
+  pub sized : Sized first sets
+
+-- the table of first chores is that of the state, for the agents in no group (free) and in some group (grouped)
+pub record Tabled (s owners prices groups entitled likes first sets : List ℕ) : Type 0 where
+  pub rows :
+      (free grouped : ℕ) → ByGroup (agentsOf s) groups free grouped
+      → Firsts (agentsOf s) (choresOf s) (ownerOf owners) (hasTrait prices entitled likes free grouped (easyWeight s * difficultWeight s) (difficultWeight s * difficultWeight s)) first sets
+
+-- a state that Algorithm 1 reaches on the sheet s, with its table
+pub record Turning (s owners prices groups entitled likes first sets : List ℕ) (cuts stage : ℕ) : Type 0 where
   pub ready : Ready s owners prices groups entitled likes
   pub moves : ℕ
   pub reached : Reached (asRead s) (stateOf owners prices groups entitled moves cuts stage)
+  pub tabled : Tabled s owners prices groups entitled likes first sets
 
--- what a turn leaves: the answer is the action that was due, and the lists are those after one step, however many moves came before
-pub record Turned (s owners prices groups entitled : List ℕ) (cuts stage : ℕ) (answer : Turn) (owners′ prices′ groups′ entitled′ : List ℕ) : Type 0 where
+-- what a turn leaves: the answer is the action that was due, the lists are those after one step, however many moves came before, and the table is
+-- theirs
+pub record Turned (s owners prices groups entitled likes : List ℕ) (cuts stage : ℕ) (answer : Turn) (owners′ prices′ groups′ entitled′ first′ sets′ : List ℕ) : Type 0 where
   pub acts : (moves : ℕ) → action (asRead s) (stateOf owners prices groups entitled moves cuts stage) ≡ actionOf answer
   pub steps : (moves : ℕ) → step (asRead s) (stateOf owners prices groups entitled moves cuts stage) ≡ named answer owners′ prices′ groups′ entitled′ moves cuts stage
+  pub tabled : Tabled s owners′ prices′ groups′ entitled′ likes first′ sets′

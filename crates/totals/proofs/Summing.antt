@@ -1,147 +1,73 @@
--- Laws of the sweep: one chore more in its lane, and the dearest taken off.
+-- Laws of the sweep: one chore more, and the dearest taken off.
 -- Assumes nothing.
-use Prim.Native.Nat.{ℕ, _+_, _*_, _-_, _^_, _≤_, _<_}
+use Prim.Native.Nat.{ℕ, _+_, _-_, _^_, _≤_, _<_}
 use mathlib.Core.List.{List}
-use mathlib.Core.Path.{_≡_, refl, sym, ap, ap₂, _∙_}
-use native.Mathlib.Nat.{le-trans}
+use mathlib.Core.Path.{_≡_, refl, ap₂, _∙_}
 use native.Mathlib.Omega.{arith}
-use lib.Dec.{eqb}
-use lib.ListN.{length, getD, set, replicate, length-set, length-replicate, getD-replicate}
-use lib.Seq.{getD-set-same, getD-set-other}
-use borrow.Author.Tests.{ne-eqb}
-use Rattle.finite.specs.Sums.{sumTo}
+use lib.ListN.{length, getD, set, replicate}
 use Rattle.finite.specs.Lists.{Table}
-use Rattle.finite.proofs.Tests.{eqb-same}
-use Rattle.finite.proofs.Below.{by-same}
-use Rattle.finite.proofs.Sums.{sum-next, sum-cong, sum-none, sum-change, sum-point, sum-split, sum-at-most}
-use Rattle.finite.proofs.Where.{peak-within, where-zero, where-hit, where-miss, where-le-sum}
-use Rattle.finite.proofs.Sweeps.{tops-none, tops-raised, tops-kept}
+use Rattle.finite.proofs.Where.{peak-within}
+use Rattle.finite.proofs.Sweeps.{sums-none, sums-next, sums-bound, tops-none, tops-raised, tops-kept}
 use Rattle.model.specs.Limits.{maxAgents, maxPrice}
 use Rattle.model.specs.Instance.{ownerOf, priceOf}
 use Rattle.model.specs.Fairness.{owns, total}
 use Rattle.model.specs.Prices.{priceSum, dearest, priceUpToOne}
-use Rattle.totals.specs.Totals.{Held, laneCount, lanesSize, laneSum, Laned, Parts, TakenOff, Summed}
+use Rattle.totals.specs.Totals.{Held, Added, Parts, TakenOff, Summed}
 
--- the owner of chore c, as the code counts
-abbrev owner : List ℕ → ℕ → ℕ
-owner owners c = getD owners c 0 - 1
-
--- its place in lane q
-abbrev place : List ℕ → ℕ → ℕ → ℕ
-place owners c q = maxAgents * q + owner owners c
-
--- a sum so far, and the next
-pub sum-part : {k n : ℕ} (f : ℕ → ℕ) → k < n → sumTo k f + f k ≤ sumTo n f
-sum-part {k} {n} f l =
-    let whole : k + 1 + (n - (k + 1)) ≡ n = omega arith in
-    omega (arith, rw whole at (sum-split (k + 1) (n - (k + 1)) f), sum-next k f)
-
-module _ {owners prices : List ℕ} where
+module _ {owners prices sums tops : List ℕ} where
   -- no chore has been added yet
-  pub laned-none : {lanes : List ℕ} → lanes ≡ replicate lanesSize 0 → Laned 0 owners prices lanes
-  unfolding laneSum total
-  laned-none {lanes} e =
+  pub added-none : sums ≡ replicate maxAgents 0 → tops ≡ replicate maxAgents 0 → Added 0 owners prices sums tops
+  unfolding total dearest owns
+  added-none s t = record { sum = sums-none (ownerOf owners) (priceOf prices) s; top = tops-none (ownerOf owners) (priceOf prices) t }
+
+  -- the dearest is part of the sum
+  pub added-parts : {k n : ℕ} → Added k owners prices sums tops → n ≤ maxAgents → Parts n sums tops
+  unfolding total dearest
+  added-parts {k} a few =
       record {
-        size = ap length e ∙ length-replicate {A = ℕ} lanesSize 0;
-        sum = λ i l.
-            sum-none laneCount (λ q h. ap (λ xs. getD xs (maxAgents * q + i) 0) e ∙ getD-replicate lanesSize (maxAgents * q + i) 0 0 (omega arith))
-            ∙ sym (where-zero (owns (ownerOf owners) i) (priceOf prices));
+        agents = few;
+        size = a .top .size;
+        part = λ i l.
+            let e : i < maxAgents = omega arith in
+            rw (a .sum .entry i e, a .top .entry i e) (peak-within k (owns (ownerOf owners) i) (priceOf prices));
       }
 
-  -- all have been
-  pub laned-all : {lanes sums : List ℕ} → Laned (length owners) owners prices lanes → Table maxAgents (laneSum lanes) sums → Table maxAgents (priceSum (length owners) (ownerOf owners) (priceOf prices)) sums
-  laned-all d t = record { size = t .size; entry = λ i l. t .entry i l ∙ d .sum i l }
+  pub summed : {n : ℕ} {ups : List ℕ} → Added (length owners) owners prices sums tops → n ≤ maxAgents → TakenOff n sums tops ups → Summed n owners prices sums ups
+  unfolding priceUpToOne
+  summed a few t =
+      record {
+        sum = a .sum;
+        size = t .size ∙ a .top .size;
+        up = λ i l. let e : i < maxAgents = omega arith in t .rest i l ∙ ap₂ (λ s d. s - d) (a .sum .entry i e) (a .top .entry i e);
+      }
 
-module _ {owners prices : List ℕ} (h : Held owners prices) where
-  -- 4,000 prices of 1,000,000 fit
-  pub laned-bound : {c : ℕ} {lanes : List ℕ} → c ≤ length owners → Laned c owners prices lanes → (i : ℕ) → i < maxAgents → laneSum lanes i ≤ c * maxPrice
-  unfolding total priceOf
-  laned-bound {c} few d i l =
-      rw (d .sum i l) (le-trans (where-le-sum c (owns (ownerOf owners) i) (priceOf prices)) (sum-at-most c maxPrice (λ e m. h .bounded e (omega arith))))
+-- the owner of chore c, as the code counts
+abbrev pub owner : List ℕ → ℕ → ℕ
+owner owners c = getD owners c 0 - 1
 
-  pub laned-fits : {c : ℕ} {lanes : List ℕ} → c ≤ length owners → Laned c owners prices lanes → (i : ℕ) → i < maxAgents → laneSum lanes i < 2 ^ 32
-  laned-fits few d i l = omega (arith, laned-bound few d i l, h .chores)
+module _ {owners prices : List ℕ} (h : Held owners prices) {c : ℕ} (below : c < length owners) where
+  -- it has an entry
+  pub owner-room : owner owners c < maxAgents
+  owner-room = omega (arith, h .numbered c below, h .known c below)
 
-  module _ {c : ℕ} (below : c < length owners) where
-    -- the owner has an entry
-    pub owner-room : owner owners c < maxAgents
-    owner-room = omega (arith, h .numbered c below, h .known c below)
+  module _ {sums tops : List ℕ} (a : Added c owners prices sums tops) where
+    -- 4,000 prices of 1,000,000 fit
+    pub sum-fits : getD sums (owner owners c) 0 + getD prices c 0 < 2 ^ 32
+    unfolding total owns priceOf
+    sum-fits =
+        omega (arith, sums-bound (ownerOf owners) (priceOf prices) {b = maxPrice} (a .sum) (λ d l. h .bounded d (omega arith)) (owner owners c) owner-room, h .bounded c below, h .chores)
 
-    module _ {lanes : List ℕ} {q : ℕ} (d : Laned c owners prices lanes) (lane : q < laneCount) where
-      -- in each lane
-      pub lane-room : place owners c q < lanesSize
-      lane-room = omega (arith, owner-room)
-
-      -- a lane is at most the sum of them
-      pub lane-fits : getD lanes (place owners c q) 0 + getD prices c 0 < 2 ^ 32
-      unfolding laneSum
-      lane-fits =
-          omega (arith, sum-point (λ r. getD lanes (place owners c r) 0) q lane, laned-bound (omega arith) d (owner owners c) owner-room, h .bounded c below, h .chores)
-
-      -- the price added in lane q of the owner
-      abbrev more : List ℕ
-      more = set lanes (place owners c q) (getD lanes (place owners c q) 0 + getD prices c 0)
-
-      -- it is added to the owner's sum
-      sum-here : laneSum more (owner owners c) ≡ laneSum lanes (owner owners c) + getD prices c 0
-      unfolding laneSum
-      sum-here =
-          let new : ℕ → ℕ = λ r. getD more (place owners c r) 0 in
-          let old : ℕ → ℕ = λ r. getD lanes (place owners c r) 0 in
-          let others : (r : ℕ) → r < laneCount → (r ≡ q → ⊥) → new r ≡ old r = λ r m ne. getD-set-other lanes (place owners c q) (place owners c r) _ 0 (λ same. ne (omega arith)) in
-          omega
-          (arith, sum-change {n = laneCount} {f = new} {g = old} q lane others, getD-set-same lanes (place owners c q) (old q + getD prices c 0) 0 (omega (arith, lane-room, d .size)))
-
-      -- and to no other
-      sum-there : (i : ℕ) → i < maxAgents → (i ≡ owner owners c → ⊥) → laneSum more i ≡ laneSum lanes i
-      unfolding laneSum
-      sum-there i l ne =
-          sum-cong laneCount (λ r m. getD-set-other lanes (place owners c q) (maxAgents * r + i) _ 0 (λ same. ne (omega (arith, owner-room))))
-
-      pub laned-next : Laned (c + 1) owners prices more
-      unfolding total owns ownerOf priceOf
-      laned-next =
-          record {
-            size = length-set lanes (place owners c q) (getD lanes (place owners c q) 0 + getD prices c 0) ∙ d .size;
-            sum = λ i l.
-                by-same i (owner owners c)
-                (λ e. rw e (sum-here ∙ ap (λ s. s + getD prices c 0) (d .sum (owner owners c) owner-room) ∙ sym (where-hit c (λ k. eqb (owner owners k) (owner owners c)) (λ k. getD prices k 0) (eqb-same (owner owners c)))))
-                (λ ne. sum-there i l ne ∙ d .sum i l ∙ sym (where-miss c (λ k. eqb (owner owners k) i) (λ k. getD prices k 0) (ne-eqb (owner owners c) i (λ e. ne (sym e)))));
-          }
+    sum-next : Table maxAgents (priceSum (c + 1) (ownerOf owners) (priceOf prices)) (set sums (owner owners c) (getD sums (owner owners c) 0 + getD prices c 0))
+    unfolding total owns ownerOf priceOf
+    sum-next = sums-next (ownerOf owners) (priceOf prices) refl (a .sum) owner-room refl
 
     -- chore c is as dear as any of its owner's
-    pub top-raised : {tops : List ℕ} → Table maxAgents (dearest c (ownerOf owners) (priceOf prices)) tops → getD tops (owner owners c) 0 ≤ getD prices c 0 → Table maxAgents (dearest (c + 1) (ownerOf owners) (priceOf prices)) (set tops (owner owners c) (getD prices c 0))
+    pub added-raised : getD tops (owner owners c) 0 ≤ getD prices c 0 → Added (c + 1) owners prices (set sums (owner owners c) (getD sums (owner owners c) 0 + getD prices c 0)) (set tops (owner owners c) (getD prices c 0))
     unfolding dearest owns ownerOf priceOf
-    top-raised t d = tops-raised (ownerOf owners) (priceOf prices) refl t owner-room refl d
+    added-raised d =
+        record { sum = sum-next; top = tops-raised (ownerOf owners) (priceOf prices) refl (a .top) owner-room refl d }
 
     -- or is not dearer
-    pub top-kept : {tops : List ℕ} → Table maxAgents (dearest c (ownerOf owners) (priceOf prices)) tops → getD prices c 0 ≤ getD tops (owner owners c) 0 → Table maxAgents (dearest (c + 1) (ownerOf owners) (priceOf prices)) tops
+    pub added-kept : getD prices c 0 ≤ getD tops (owner owners c) 0 → Added (c + 1) owners prices (set sums (owner owners c) (getD sums (owner owners c) 0 + getD prices c 0)) tops
     unfolding dearest owns ownerOf priceOf
-    top-kept t d = tops-kept (ownerOf owners) (priceOf prices) refl t d
-
-module _ (owners prices : List ℕ) where
-  pub top-none : {tops : List ℕ} → tops ≡ replicate maxAgents 0 → Table maxAgents (dearest 0 (ownerOf owners) (priceOf prices)) tops
-  unfolding dearest owns
-  top-none = tops-none (ownerOf owners) (priceOf prices)
-
-  module _ {n : ℕ} {sums tops : List ℕ} (few : n ≤ maxAgents) (s : Table maxAgents (priceSum (length owners) (ownerOf owners) (priceOf prices)) sums) (t : Table maxAgents (dearest (length owners) (ownerOf owners) (priceOf prices)) tops) where
-    -- the dearest is part of the sum
-    pub top-parts : Parts n sums tops
-    unfolding total dearest
-    top-parts =
-        record {
-          agents = few;
-          size = t .size;
-          part = λ i l.
-              let e : i < maxAgents = omega arith in
-              rw (s .entry i e, t .entry i e) (peak-within (length owners) (owns (ownerOf owners) i) (priceOf prices));
-        }
-
-    pub summed : {ups : List ℕ} → TakenOff n sums tops ups → Summed n owners prices sums ups
-    unfolding priceUpToOne
-    summed o =
-        record {
-          sum = s;
-          size = o .size ∙ t .size;
-          up = λ i l. let e : i < maxAgents = omega arith in o .rest i l ∙ ap₂ (λ s d. s - d) (s .entry i e) (t .entry i e);
-        }
+    added-kept d = record { sum = sum-next; top = tops-kept (ownerOf owners) (priceOf prices) refl (a .top) d }

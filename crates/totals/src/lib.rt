@@ -1,15 +1,14 @@
 // Sums of all agents: price sums, in one pass over the chores, and the first sum that is below a limit or the least. And lists of zeros.
 ghost use mathlib.Core.Bool.{true};
 ghost use mathlib.Core.Path.{_≡_};
-ghost use Prim.Native.Nat.{_+_, _^_, _≤_, _<_};
+ghost use Prim.Native.Nat.{_≤_, _<_};
 ghost use lib.Dec.{ltb};
 ghost use lib.ListN.{length, getD, replicate};
 ghost use Rattle.finite.specs.Search.{firstBelow, chosen};
-ghost use Rattle.finite.specs.Lists.{Table};
 ghost use Rattle.model.specs.Limits.{maxAgents, maxChores, scratchSize};
-ghost use Rattle.model.specs.Instance.{ownerOf, priceOf};
-ghost use Rattle.model.specs.Prices.{priceSum, dearest};
-ghost use Rattle.totals.specs.Totals.{Held, lanesSize, laneSum, Laned, Adding, Narrow, Parts, TakenOff, Summing, Summed};
+ghost use Rattle.totals.specs.Totals.{Parts, TakenOff, Summing, Summed};
+
+pub mod lanes;
 
 // A number for each agent. Made in a function of its own, so that its entries are one value where it is used.
 pub fn zeros() -> [u32; model::MAX_AGENTS]
@@ -48,91 +47,6 @@ pub fn clear(xs: &mut [u8])
     }
 }
 
-// So many partial sums for each agent: an addition need not wait for the one before it.
-const LANES: usize = 8;
-
-fn no_lanes() -> [u32; LANES * model::MAX_AGENTS]
-    ensures { λ r. ⌜ r ≡ replicate lanesSize 0 ⌝ }
-{
-    [0; LANES * model::MAX_AGENTS]
-}
-
-// The next `count` chores, each in a lane of its own.
-fn add_some(
-    owners: &[u8],
-    prices: &[u32],
-    from: usize,
-    count: usize,
-    lanes: &mut [u32; LANES * model::MAX_AGENTS],
-)
-    requires { ⌜ Adding from count (now owners) (now prices) (now lanes) ⌝ }
-    ensures { λ _. ⌜ Laned (from + count) (now (owners .entry)) (now (prices .entry)) (now (lanes .exit)) ⌝ }
-{
-    let mut q = 0;
-    while q < count {
-        let o = owners[from + q] as usize - 1;
-        lanes[model::MAX_AGENTS * q + o] += prices[from + q];
-        q += 1;
-    }
-}
-
-// Agent i's lanes added up.
-fn lane_sum(lanes: &[u32; LANES * model::MAX_AGENTS], i: usize) -> u32
-    requires { ⌜ (i < maxAgents) × (laneSum (now lanes) i < 2 ^ 32) ⌝ }
-    ensures { λ r. ⌜ r ≡ laneSum (now (lanes .entry)) i ⌝ }
-{
-    let mut sum = 0;
-    let mut q = 0;
-    while q < LANES {
-        sum += lanes[model::MAX_AGENTS * q + i];
-        q += 1;
-    }
-    sum
-}
-
-// The lanes of each agent added up.
-fn add_lanes(lanes: &[u32; LANES * model::MAX_AGENTS], sums: &mut [u32; model::MAX_AGENTS])
-    requires { ⌜ Narrow (now lanes) × (length (now sums) ≡ maxAgents) ⌝ }
-    ensures { λ _. ⌜ Table maxAgents (laneSum (now (lanes .entry))) (now (sums .exit)) ⌝ }
-{
-    let mut i = 0;
-    while i < model::MAX_AGENTS {
-        sums[i] = lane_sum(lanes, i);
-        i += 1;
-    }
-}
-
-// Each price is added to its owner's sum, all in one pass over the chores.
-pub fn add_up(owners: &[u8], prices: &[u32], sums: &mut [u32; model::MAX_AGENTS])
-    requires { ⌜ Held (now owners) (now prices) × (length (now sums) ≡ maxAgents) ⌝ }
-    ensures { λ _. ⌜ Table maxAgents (priceSum (length (now (owners .entry))) (ownerOf (now (owners .entry))) (priceOf (now (prices .entry)))) (now (sums .exit)) ⌝ }
-{
-    let mut lanes = no_lanes();
-    let mut c = 0;
-    while owners.len() - c > LANES {
-        add_some(owners, prices, c, LANES, &mut lanes);
-        c += LANES;
-    }
-    add_some(owners, prices, c, owners.len() - c, &mut lanes);
-    add_lanes(&lanes, sums);
-}
-
-// Each agent's dearest price.
-fn keep_dearest(owners: &[u8], prices: &[u32], tops: &mut [u32; model::MAX_AGENTS])
-    requires { ⌜ Held (now owners) (now prices) × (now tops ≡ replicate maxAgents 0) ⌝ }
-    ensures { λ _. ⌜ Table maxAgents (dearest (length (now (owners .entry))) (ownerOf (now (owners .entry))) (priceOf (now (prices .entry)))) (now (tops .exit)) ⌝ }
-{
-    let mut c = 0;
-    while c < owners.len() {
-        let o = owners[c] as usize - 1;
-        let price = prices[c];
-        if tops[o] < price {
-            tops[o] = price;
-        }
-        c += 1;
-    }
-}
-
 // The dearest becomes what is left of the sum without it.
 fn take_off(n: usize, sums: &[u32; model::MAX_AGENTS], dearest: &mut [u32; model::MAX_AGENTS])
     requires { ⌜ Parts n (now sums) (now dearest) ⌝ }
@@ -145,8 +59,8 @@ fn take_off(n: usize, sums: &[u32; model::MAX_AGENTS], dearest: &mut [u32; model
     }
 }
 
-// Each agent's price sum. `ups` gets each agent's dearest price, and then, for the first n, the price up to one. Both are lent, since arrays
-// that are returned are copied, once a move.
+// Each price is added to its owner's sum. `ups` gets each agent's dearest price, and then, for the first n, the price up to one. Both are
+// lent, since arrays that are returned are copied, once a move.
 pub fn sum_up(
     n: usize,
     owners: &[u8],
@@ -157,8 +71,16 @@ pub fn sum_up(
     requires { ⌜ Summing n (now owners) (now prices) (now sums) (now ups) ⌝ }
     ensures { λ _. ⌜ Summed n (now (owners .entry)) (now (prices .entry)) (now (sums .exit)) (now (ups .exit)) ⌝ }
 {
-    add_up(owners, prices, sums);
-    keep_dearest(owners, prices, ups);
+    let mut c = 0;
+    while c < owners.len() {
+        let o = owners[c] as usize - 1;
+        let price = prices[c];
+        sums[o] += price;
+        if ups[o] < price {
+            ups[o] = price;
+        }
+        c += 1;
+    }
     take_off(n, sums, ups);
 }
 

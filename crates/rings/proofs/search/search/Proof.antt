@@ -3,7 +3,11 @@
 use Prim.Native.Nat.{_-_, _<_}
 use mathlib.Core.Path.{_≡_, refl}
 use mathlib.Core.Logic.{⊎-elim}
+use native.Mathlib.Nat.{lt-of-le-of-lt, lt-of-lt-of-le}
 use native.Mathlib.Omega.{arith}
+use lib.Bits.{and-le-r}
+use lib.ListN.{getD}
+use lib.Pow.{pow-mono}
 use borrow.Author.Needs.{needs}
 use Rattle.rings.proofs.Started.{filled-most}
 use Rattle.rings.proofs.Rounds.{AtRing, AtAgent, ring-start, ring-below, ring-further, ring-next, ring-last, agent-first, agent-reached, agent-unwanted, agent-room, agent-take, agent-found}
@@ -85,6 +89,16 @@ mul-wanting c = search needs
 
 shared-slice-read-wanting : tie.Need-shared-slice-read-wanting Inv-loop μ-loop Inv-rings μ-rings
 shared-slice-read-wanting c = search needs
+
+cast-wanting : tie.Need-cast-wanting Inv-loop μ-loop Inv-rings μ-rings
+cast-wanting c = search needs
+
+cast-wanting-2 : tie.Need-cast-wanting-2 Inv-loop μ-loop Inv-rings μ-rings
+cast-wanting-2 c =
+    let ring = ring-at (byte-at (c .before .before)) in
+    let start = begin (line-at (rings-at ring)) in
+    let offer = getD (start .args .offers .now) (c .before .before .loop .i) 0 in
+    record { fits = lt-of-le-of-lt (and-le-r offer (ring .ring .result)) (lt-of-lt-of-le (ring .ring .ensures .below) (pow-mono (start .pre .agents))) }
 
 slice-read-if2 : tie.Need-slice-read-if2 Inv-loop μ-loop Inv-rings μ-rings
 slice-read-if2 c = search needs
@@ -184,6 +198,8 @@ search-spec =
     loop-holds
     mul-wanting
     shared-slice-read-wanting
+    cast-wanting
+    cast-wanting-2
     slice-read-if2
     take-place-requires
     add-end

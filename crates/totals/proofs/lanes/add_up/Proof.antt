@@ -1,13 +1,13 @@
--- `totals::add_up` meets its contract. The loop's invariant: the chores passed are added up in the lanes.
+-- `totals::lanes::add_up` meets its contract. The loop's invariant: the chores passed are added up in the lanes.
 use Prim.Native.Nat.{_+_, _-_, _≤_}
 use mathlib.Core.Path.{_≡_}
 use native.Mathlib.Omega.{arith}
 use lib.ListN.{length}
 use borrow.Author.Needs.{needs}
-use Rattle.totals.specs.Totals.{Laned}
-use Rattle.totals.proofs.Summing.{laned-none, laned-all, laned-fits}
-use Rattle.totals.proofs.add_up.Statement.{statement}
-use Rattle.totals.proofs.add_up.Tie as tie
+use Rattle.totals.specs.Lanes.{Laned}
+use Rattle.totals.proofs.Laning.{laned-none, laned-all, laned-fits}
+use Rattle.totals.proofs.lanes.add_up.Statement.{statement}
+use Rattle.totals.proofs.lanes.add_up.Tie as tie
 
 abbrev Inv-loop : tie.InvT-loop
 Inv-loop owners prices sums lanes₀ c₀ lanes c = (c ≤ length owners) × Laned c owners prices lanes

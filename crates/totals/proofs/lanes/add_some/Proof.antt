@@ -1,14 +1,14 @@
--- `totals::add_some` meets its contract. The loop's invariant: the chores passed are added up in the lanes.
+-- `totals::lanes::add_some` meets its contract. The loop's invariant: the chores passed are added up in the lanes.
 use Prim.Native.Nat.{ℕ, _+_, _-_, _*_, _≤_, _<_}
 use mathlib.Core.Path.{_≡_}
 use native.Mathlib.Omega.{arith}
 use lib.ListN.{length, getD}
 use borrow.Author.Needs.{needs}
 use Rattle.model.specs.Limits.{maxAgents}
-use Rattle.totals.specs.Totals.{lanesSize, Laned}
-use Rattle.totals.proofs.Summing.{lane-room, lane-fits, laned-next}
-use Rattle.totals.proofs.add_some.Statement.{statement}
-use Rattle.totals.proofs.add_some.Tie as tie
+use Rattle.totals.specs.Lanes.{lanesSize, Laned}
+use Rattle.totals.proofs.Laning.{lane-room, lane-fits, laned-next}
+use Rattle.totals.proofs.lanes.add_some.Statement.{statement}
+use Rattle.totals.proofs.lanes.add_some.Tie as tie
 
 abbrev Inv-loop : tie.InvT-loop
 Inv-loop owners prices from count lanes₀ q₀ lanes q = (q ≤ count) × Laned (from + q) owners prices lanes

@@ -1,4 +1,4 @@
--- `totals::add_lanes` meets its contract. The loop's invariant: the sums passed are those of the lanes.
+-- `totals::lanes::add_lanes` meets its contract. The loop's invariant: the sums passed are those of the lanes.
 use Prim.Native.Nat.{_-_, _≤_, _<_}
 use mathlib.Core.Bool.{true}
 use mathlib.Core.Path.{_≡_, refl, _∙_}
@@ -6,9 +6,9 @@ use native.Mathlib.Omega.{arith}
 use borrow.Author.Needs.{needs}
 use Rattle.finite.proofs.Rewriting.{Rewritten, rewritten-none, rewritten-set, rewritten-at}
 use Rattle.model.specs.Limits.{maxAgents}
-use Rattle.totals.specs.Totals.{laneSum}
-use Rattle.totals.proofs.add_lanes.Statement.{statement}
-use Rattle.totals.proofs.add_lanes.Tie as tie
+use Rattle.totals.specs.Lanes.{laneSum}
+use Rattle.totals.proofs.lanes.add_lanes.Statement.{statement}
+use Rattle.totals.proofs.lanes.add_lanes.Tie as tie
 
 abbrev Inv-loop : tie.InvT-loop
 Inv-loop lanes sums₀ i₀ sums i = (i ≤ maxAgents) × Rewritten i (λ k. true) (laneSum lanes) sums₀ sums

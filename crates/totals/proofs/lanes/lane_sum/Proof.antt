@@ -1,16 +1,15 @@
--- `totals::lane_sum` meets its contract. The loop's invariant: the lanes passed are added up.
+-- `totals::lanes::lane_sum` meets its contract. The loop's invariant: the lanes passed are added up.
 use Prim.Native.Nat.{ℕ, _+_, _-_, _*_, _≤_}
 use mathlib.Core.Path.{_≡_, sym, ap, _∙_}
 use native.Mathlib.Omega.{arith}
 use lib.ListN.{getD}
 use borrow.Author.Needs.{needs}
 use Rattle.finite.specs.Sums.{sumTo}
-use Rattle.finite.proofs.Sums.{sum-zero, sum-next}
+use Rattle.finite.proofs.Sums.{sum-zero, sum-next, sum-part}
 use Rattle.model.specs.Limits.{maxAgents}
-use Rattle.totals.specs.Totals.{laneCount, laneSum}
-use Rattle.totals.proofs.Summing.{sum-part}
-use Rattle.totals.proofs.lane_sum.Statement.{statement}
-use Rattle.totals.proofs.lane_sum.Tie as tie
+use Rattle.totals.specs.Lanes.{laneCount, laneSum}
+use Rattle.totals.proofs.lanes.lane_sum.Statement.{statement}
+use Rattle.totals.proofs.lanes.lane_sum.Tie as tie
 
 abbrev Inv-loop : tie.InvT-loop
 Inv-loop lanes i sum₀ q₀ sum q = (q ≤ laneCount) × (sum ≡ sumTo q (λ k. getD lanes (maxAgents * k + i) 0))
@@ -42,7 +41,7 @@ unfolding laneSum
 add-sum-2 c =
     let loop = c .before .before .loop in
     let start = c .before .before .before in
-    record { fits = omega (arith, loop .inv .1, sum-part {k = loop .q} {n = laneCount} (lane start) (omega arith), start .pre .1) }
+    record { fits = omega (arith, loop .inv .1, sum-part {n = laneCount} (lane start) (loop .q) (omega arith), start .pre .1) }
 
 add-q : tie.Need-add-q Inv-loop μ-loop
 add-q c = search needs
