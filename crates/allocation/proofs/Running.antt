@@ -23,7 +23,7 @@ use Rattle.algorithm.proofs.Begin.{opening-reached}
 use Rattle.algorithm.proofs.Ending.{reached, step-falls, done-reached}
 use Rattle.algorithm.proofs.RunMoves.{leads}
 use Rattle.steps.specs.declared.Turn.{Turn}
-use Rattle.steps.specs.Turns.{stateOf, named, actionOf, Turning, Turned}
+use Rattle.steps.specs.Turns.{stateOf, named, actionOf, Ready, Tabled, Turning, Turned}
 use Rattle.allocation.specs.Runs.{Running, Kit, RunEnds}
 use Rattle.steps.proofs.Ready.{reached-ready}
 
@@ -38,8 +38,11 @@ module _ {s : List ℕ} (v : Valid s) {owners prices groups entitled lent bytes 
   pub state-reached : Reached (asRead s) st
   state-reached = reached (read-sound v) (opening-reached (read-sound v)) (R .count) _ (R .comes)
 
-  pub turning : {likes : List ℕ} → Kit s likes → Turning s owners prices groups entitled likes cuts stage
-  turning k = record { ready = reached-ready v state-reached (k .liking); moves = moves; reached = state-reached }
+  pub ready : {likes : List ℕ} → Kit s likes → Ready s owners prices groups entitled likes
+  ready k = reached-ready v state-reached (k .liking)
+
+  pub turning : {likes first sets : List ℕ} → Kit s likes → Tabled s owners prices groups entitled likes first sets → Turning s owners prices groups entitled likes first sets cuts stage
+  turning k t = record { ready = ready k; moves = moves; reached = state-reached; tabled = t }
 
   pub moves-fit : moves ≤ mostEver
   unfolding asRead
@@ -56,7 +59,7 @@ module _ {s : List ℕ} (v : Valid s) {owners prices groups entitled lent bytes 
       subst (λ o. length (movesIn (asRead s) (R .count)) ≡ stateIn o .moves) (R .comes) (leads (read-sound v) (R .count) .count)
 
   -- a turn that answered r
-  module _ {owners′ prices′ groups′ entitled′ : List ℕ} {answer r : Turn} (T : Turned s owners prices groups entitled cuts stage answer owners′ prices′ groups′ entitled′) (e : answer ≡ r) where
+  module _ {likes owners′ prices′ groups′ entitled′ first′ sets′ : List ℕ} {answer r : Turn} (T : Turned s owners prices groups entitled likes cuts stage answer owners′ prices′ groups′ entitled′ first′ sets′) (e : answer ≡ r) where
     acts : action (asRead s) st ≡ actionOf r
     acts = T .acts moves ∙ ap actionOf e
 

@@ -1,11 +1,15 @@
 // The run of Algorithm 1, one step a turn.
+ghost use Prim.Native.Nat.{_*_};
 ghost use mathlib.Core.Path.{_≡_};
 ghost use lib.ListN.{length};
-ghost use Rattle.model.specs.Limits.{scratchSize};
-ghost use Rattle.steps.specs.Turns.{Turning, Turned};
+ghost use Rattle.model.specs.Limits.{maxAgents, scratchSize};
+ghost use Rattle.firsts.specs.Traits.{traitCount};
+ghost use Rattle.steps.specs.Turns.{Tabled, Turning, Turned};
 ghost use Rattle.allocation.specs.Runs.{Running, Kit, RunEnds};
+use firsts::traits::TRAITS;
 use records::note;
 use steps::Turn;
+use steps::fill_table;
 use steps::step_2a;
 use steps::step_2b;
 
@@ -24,13 +28,15 @@ fn take_turn(
     groups: &mut [u8],
     entitled: &mut [u8],
     likes: &[u32],
+    first: &mut [u16],
+    sets: &mut [u64],
     scratch: &mut [u8],
     at: Counts,
 ) -> Turn
-    requires { ⌜ Turning (now sheet) (now owners) (now prices) (now groups) (now entitled) (now likes) (at .cuts) (at .stage) ⌝ }
+    requires { ⌜ Turning (now sheet) (now owners) (now prices) (now groups) (now entitled) (now likes) (now first) (now sets) (at .cuts) (at .stage) ⌝ }
     requires { ⌜ length (now scratch) ≡ scratchSize ⌝ }
-    ensures { λ r. ⌜ Turned (now (sheet .entry)) (now (owners .entry)) (now (prices .entry)) (now (groups .entry)) (now (entitled .entry)) (at .cuts) (at .stage)
-        r (now (owners .exit)) (now (prices .exit)) (now (groups .exit)) (now (entitled .exit)) ⌝ }
+    ensures { λ r. ⌜ Turned (now (sheet .entry)) (now (owners .entry)) (now (prices .entry)) (now (groups .entry)) (now (entitled .entry)) (now (likes .entry)) (at .cuts) (at .stage)
+        r (now (owners .exit)) (now (prices .exit)) (now (groups .exit)) (now (entitled .exit)) (now (first .exit)) (now (sets .exit)) ⌝ }
 {
     if at.stage == 0 {
         return step_2b(
@@ -40,6 +46,8 @@ fn take_turn(
             groups,
             entitled,
             likes,
+            first,
+            sets,
             at.cuts,
             scratch,
         );
@@ -51,24 +59,28 @@ fn take_turn(
         groups,
         entitled,
         likes,
+        first,
+        sets,
         at.cuts,
         at.stage,
     )
 }
 
 // From the opening to the stop in 2b. A cut starts 2a at the group before the new one. Moves that the record has no room for are counted only.
-pub fn run(
+fn take_turns(
     sheet: &[u8],
     owners: &mut [u8],
     prices: &mut [u32],
     groups: &mut [u8],
     entitled: &mut [u8],
     likes: &[u32],
+    first: &mut [u16],
+    sets: &mut [u64],
     scratch: &mut [u8],
     record: &mut [u8],
 ) -> Counts
     requires { ⌜ Kit (now sheet) (now likes) × Running (now sheet) (now owners) (now prices) (now groups) (now entitled) (now «record») (now «record») 0 0 0 ⌝ }
-    requires { ⌜ length (now scratch) ≡ scratchSize ⌝ }
+    requires { ⌜ Tabled (now sheet) (now owners) (now prices) (now groups) (now entitled) (now likes) (now first) (now sets) × (length (now scratch) ≡ scratchSize) ⌝ }
     ensures { λ r. ⌜ RunEnds (now (sheet .entry)) (now (owners .exit)) (now (prices .exit)) (now (groups .exit)) (now (entitled .exit)) (now («record» .entry)) (now («record» .exit)) (r .moves) (r .cuts) ⌝ }
 {
     let mut at = Counts {
@@ -77,7 +89,18 @@ pub fn run(
         stage: 0,
     };
     loop {
-        let turn = take_turn(sheet, owners, prices, groups, entitled, likes, scratch, at);
+        let turn = take_turn(
+            sheet,
+            owners,
+            prices,
+            groups,
+            entitled,
+            likes,
+            first,
+            sets,
+            scratch,
+            at,
+        );
         match turn {
             Turn::Moved {
                 chore,
@@ -95,4 +118,58 @@ pub fn run(
             Turn::Ended => return at,
         }
     }
+}
+
+// Room for the table of first chores.
+fn no_firsts() -> [u16; model::MAX_AGENTS * TRAITS]
+    ensures { λ r. ⌜ maxAgents * traitCount ≡ length r ⌝ }
+{
+    [0; model::MAX_AGENTS * TRAITS]
+}
+
+fn no_sets() -> [u64; model::MAX_AGENTS]
+    ensures { λ r. ⌜ maxAgents ≡ length r ⌝ }
+{
+    [0; model::MAX_AGENTS]
+}
+
+// The run, with its table.
+pub fn run(
+    sheet: &[u8],
+    owners: &mut [u8],
+    prices: &mut [u32],
+    groups: &mut [u8],
+    entitled: &mut [u8],
+    likes: &[u32],
+    scratch: &mut [u8],
+    record: &mut [u8],
+) -> Counts
+    requires { ⌜ Kit (now sheet) (now likes) × Running (now sheet) (now owners) (now prices) (now groups) (now entitled) (now «record») (now «record») 0 0 0 ⌝ }
+    requires { ⌜ length (now scratch) ≡ scratchSize ⌝ }
+    ensures { λ r. ⌜ RunEnds (now (sheet .entry)) (now (owners .exit)) (now (prices .exit)) (now (groups .exit)) (now (entitled .exit)) (now («record» .entry)) (now («record» .exit)) (r .moves) (r .cuts) ⌝ }
+{
+    let mut first = no_firsts();
+    let mut sets = no_sets();
+    fill_table(
+        sheet,
+        owners,
+        prices,
+        groups,
+        entitled,
+        likes,
+        &mut first,
+        &mut sets,
+    );
+    take_turns(
+        sheet,
+        owners,
+        prices,
+        groups,
+        entitled,
+        likes,
+        &mut first,
+        &mut sets,
+        scratch,
+        record,
+    )
 }

@@ -117,7 +117,7 @@ module _ {s owners prices groups entitled likes first sets : List ℕ} {cuts sta
         let few = C .turning .ready .valid .agentsFit in
         record {
           listed = listed-most (C .turning .ready);
-          sized = rows-of seen (C .turning .tabled) .sized;
+          sized = C .turning .tabled .sized;
           giver = omega (arith, giver-below, few);
           receiver = omega (arith, receiver-below, few);
           trait = omega arith;

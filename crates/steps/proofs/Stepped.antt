@@ -72,7 +72,7 @@ module _ {s owners prices groups entitled likes first sets : List â„•} {cuts : â
         handing =
             record {
               listed = listed-most (T .ready);
-              sized = rows-of seen (T .tabled) .sized;
+              sized = T .tabled .sized;
               giver = omega (arith, few);
               receiver = omega (arith, receiver-below, few);
               trait = omega (arith, receiver-below, few);

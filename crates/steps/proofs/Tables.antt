@@ -20,6 +20,7 @@ module _ {s groups : List ℕ} {free grouped low mid top : ℕ} (seen : Views s 
   pub tabled-by : {owners prices entitled likes first sets : List ℕ} → Firsts (agentsOf s) (choresOf s) (ownerOf owners) (hasTrait prices entitled likes free grouped mid top) first sets → Tabled s owners prices groups entitled likes first sets
   tabled-by F =
       record {
+        sized = F .sized;
         rows = λ f g B. rw (set-unique (B .freeAre) (seen .sides .freeAre), set-unique (B .groupedAre) (seen .sides .groupedAre), ← seen .midIs, ← seen .topIs) F;
       }
 

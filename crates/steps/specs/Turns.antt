@@ -54,6 +54,7 @@ pub record Filling (s owners prices groups entitled likes first sets : List ℕ)
 
 -- the table of first chores is that of the state, for the agents in no group (free) and in some group (grouped)
 pub record Tabled (s owners prices groups entitled likes first sets : List ℕ) : Type 0 where
+  pub sized : Sized first sets
   pub rows :
       (free grouped : ℕ) → ByGroup (agentsOf s) groups free grouped
       → Firsts (agentsOf s) (choresOf s) (ownerOf owners) (hasTrait prices entitled likes free grouped (easyWeight s * difficultWeight s) (difficultWeight s * difficultWeight s)) first sets

@@ -8,7 +8,7 @@ use Rattle.finite.specs.Search.{firstBelow}
 use Rattle.model.specs.Limits.{maxAgents}
 use Rattle.model.specs.Sheet.{agentsOf}
 use Rattle.steps.proofs.Ready.{held, filling}
-use Rattle.steps.proofs.Tables.{rows-of, looking}
+use Rattle.steps.proofs.Tables.{looking}
 use Rattle.steps.proofs.Stepped.{cuts-fit, handing, moves-on, cuts-on, stops-here}
 use Rattle.steps.proofs.step_2b.Statement.{statement}
 use Rattle.steps.proofs.step_2b.Tie as tie
@@ -117,7 +117,7 @@ cut-off-requires : tie.Need-cut-off-requires
 cut-off-requires c κs =
     let look = looked-on (above (c .before .before .before .before .before .before)) in
     let turning = start (read (viewed look)) .pre .0 in
-    (filling (turning .ready) (rows-of (viewed look .view .ensures) (turning .tabled) .sized), held (turning .ready))
+    (filling (turning .ready) (turning .tabled .sized), held (turning .ready))
 
 same-length-8 : tie.Need-same-length-8
 same-length-8 c = search needs
