@@ -2,6 +2,8 @@ pub mod Wanting
 pub mod Ready
 pub mod Tables
 pub mod Looking
+pub mod Choosing
 pub mod Turned
 pub mod Stepped
 pub mod Staged
+pub mod Stepping

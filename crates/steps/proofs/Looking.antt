@@ -30,7 +30,7 @@ use Rattle.steps.specs.Looks.{Looking}
 use Rattle.steps.proofs.Wanting.{wanted-trait}
 use Rattle.steps.proofs.Ready.{sum-is, up-is, least-is}
 
-module _ {s owners prices sets : List ℕ} {free grouped low mid top : ℕ} (L : Looking s owners prices sets free grouped low mid top) where
+module _ {s owners prices groups sets : List ℕ} {free grouped low mid top : ℕ} (L : Looking s owners prices groups sets free grouped low mid top) where
   few : agentsOf s ≤ maxAgents
   few = L .ready .valid .agentsFit
 

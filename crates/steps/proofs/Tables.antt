@@ -27,8 +27,8 @@ module _ {s groups : List ℕ} {free grouped low mid top : ℕ} (seen : Views s 
   pub rows-of : {owners prices entitled likes first sets : List ℕ} → Tabled s owners prices groups entitled likes first sets → Firsts (agentsOf s) (choresOf s) (ownerOf owners) (hasTrait prices entitled likes free grouped mid top) first sets
   rows-of B = rw (seen .midIs, seen .topIs) (B .rows free grouped (seen .sides))
 
-  pub looking : {owners prices entitled likes first sets : List ℕ} → Ready s owners prices groups entitled likes → Tabled s owners prices groups entitled likes first sets → Looking s owners prices sets free grouped low mid top
-  looking R B = record { groups = _; entitled = _; likes = _; first = _; ready = R; views = seen; rows = rows-of B }
+  pub looking : {owners prices entitled likes first sets : List ℕ} → Ready s owners prices groups entitled likes → Tabled s owners prices groups entitled likes first sets → Looking s owners prices groups sets free grouped low mid top
+  looking R B = record { entitled = _; likes = _; first = _; ready = R; views = seen; rows = rows-of B }
 
 -- the lists of chores and groups after a cut
 pub refilling : {s owners prices groups entitled likes first sets prices′ groups′ entitled′ : List ℕ} {reached a b : ℕ} → Filling s owners prices groups entitled likes first sets → CutPrices owners prices entitled prices′ entitled′ reached a b → length groups′ ≡ length groups → Filling s owners prices′ groups′ entitled′ likes first sets

@@ -1,9 +1,9 @@
 -- What each kind of turn comes to: the action that was due, and one step of Algorithm 1 on the lists.
 -- Assumes nothing.
 use Prim.Native.Nat.{ℕ, _+_, _*_, _/_, _<_}
-use mathlib.Core.Bool.{cond}
+use mathlib.Core.Bool.{cond, true≢false}
 use mathlib.Core.List.{List}
-use mathlib.Core.Path.{_≡_, sym, ap, _∙_}
+use mathlib.Core.Path.{_≡_, refl, sym, ap, _∙_}
 use lib.ListN.{length, getD, set}
 use Rattle.finite.specs.Bits.{bit, SetOf}
 use Rattle.finite.specs.Lists.{tabulate}
@@ -13,11 +13,12 @@ use Rattle.model.specs.Sheet.{agentsOf, choresOf, easyWeight, difficultWeight, 
 use Rattle.model.specs.Step2b.{reachable}
 use Rattle.model.specs.Algorithm.{State, hand, pass, cut, stop, action, group, handed, passed, inNewGroup, afterCut, result}
 use Rattle.algorithm.proofs.Actions.{stepped}
+use Rattle.market.specs.Cutting.{CutPrices}
 use Rattle.firsts.specs.Traits.{traitCount, hasTrait}
 use Rattle.steps.specs.declared.Turn.the-variants.{Moved, Passed, Cut, Ended}
 use Rattle.steps.specs.declared.Turn.{Turn}
-use Rattle.steps.specs.Turns.{stateOf, actionOf, Turning, Turned}
-use Rattle.steps.specs.Looks.{Views, HandedOver, CutOff}
+use Rattle.steps.specs.Turns.{stateOf, actionOf, isCut, Tabled, Turning, Turned}
+use Rattle.steps.specs.Looks.{Views, HandedOver}
 use Rattle.steps.proofs.Tables.{tabled-by, rows-of}
 
 module _ {s owners prices groups entitled likes first sets : List ℕ} {cuts stage : ℕ} (T : Turning s owners prices groups entitled likes first sets cuts stage) where
@@ -28,18 +29,19 @@ module _ {s owners prices groups entitled likes first sets : List ℕ} {cuts sta
       record {
         acts = λ moves. a moves ∙ ap actionOf (sym (H .told));
         steps = λ moves. rw (H .told) (stepped (asRead s) (stateOf owners prices groups entitled moves cuts stage) (a moves) ∙ rw (H .handed .made));
+        kept = λ e. refl;
         tabled = tabled-by seen (rw (T .ready .ownersSized) at (H .handed .kept (agentsOf s) l (rw (T .ready .ownersSized) (rows-of seen (T .tabled)))));
       }
 
   pub passed-on : ((moves : ℕ) → action (asRead s) (stateOf owners prices groups entitled moves cuts stage) ≡ pass) → Turned s owners prices groups entitled likes cuts stage Passed owners prices groups entitled first sets
   unfolding result passed
   passed-on a =
-      record { acts = a; steps = λ moves. stepped (asRead s) (stateOf owners prices groups entitled moves cuts stage) (a moves); tabled = T .tabled }
+      record { acts = a; steps = λ moves. stepped (asRead s) (stateOf owners prices groups entitled moves cuts stage) (a moves); kept = λ e. refl; tabled = T .tabled }
 
   pub ended : ((moves : ℕ) → action (asRead s) (stateOf owners prices groups entitled moves cuts stage) ≡ stop) → Turned s owners prices groups entitled likes cuts stage Ended owners prices groups entitled first sets
   unfolding result
   ended a =
-      record { acts = a; steps = λ moves. stepped (asRead s) (stateOf owners prices groups entitled moves cuts stage) (a moves); tabled = T .tabled }
+      record { acts = a; steps = λ moves. stepped (asRead s) (stateOf owners prices groups entitled moves cuts stage) (a moves); kept = λ e. refl; tabled = T .tabled }
 
 -- the new group as a word
 module _ {s owners prices groups entitled likes first sets : List ℕ} {cuts : ℕ} (T : Turning s owners prices groups entitled likes first sets cuts 0) {reached : ℕ} (R : SetOf (agentsOf s) reached (reachable (asRead s) (ownerOf owners) (priceOf prices))) where
@@ -63,13 +65,14 @@ module _ {s owners prices groups entitled likes first sets : List ℕ} {cuts : �
         ap (λ k. tabulate k (λ i. cond (bit reached i) (f i) (g i))) (T .reached .shaped .groups)
         ∙ tab-cong (agentsOf s) (λ i h. ap (λ t. cond t (f i) (g i)) (R .member i h))
 
-  pub cut-off : {prices′ groups′ entitled′ first′ sets′ : List ℕ} → ((moves : ℕ) → action (asRead s) (stateOf owners prices groups entitled moves cuts 0) ≡ cut) → CutOff s owners prices groups entitled likes reached (cuts + 1) prices′ groups′ entitled′ first′ sets′ → Turned s owners prices groups entitled likes cuts 0 Cut owners prices′ groups′ entitled′ first′ sets′
-  unfolding asRead result afterCut st priceOf group
-  cut-off a C =
+  pub cut-off : {prices′ groups′ entitled′ first′ sets′ : List ℕ} → ((moves : ℕ) → action (asRead s) (stateOf owners prices groups entitled moves cuts 0) ≡ cut) → CutPrices owners prices entitled prices′ entitled′ reached (easyWeight s) (difficultWeight s) → groups′ ≡ tabulate (length groups) (λ i. cond (bit reached i) (cuts + 1) (getD groups i 0)) → Tabled s owners prices′ groups′ entitled′ likes first′ sets′ → Turned s owners prices groups entitled likes cuts 0 Cut owners prices′ groups′ entitled′ first′ sets′
+  unfolding asRead result afterCut st priceOf group isCut
+  cut-off a C e t =
       record {
         acts = a;
         steps = λ moves.
-            rw (C .grouped, C .cut .newPrices, C .cut .newEntitled, by-owner moves (λ c. getD prices c 0 * easyWeight s / difficultWeight s) (λ c. getD prices c 0), by-owner moves (λ c. 1) (λ c. getD entitled c 0), by-agent moves (λ i. cuts + 1) (λ i. getD groups i 0))
+            rw (e, C .newPrices, C .newEntitled, by-owner moves (λ c. getD prices c 0 * easyWeight s / difficultWeight s) (λ c. getD prices c 0), by-owner moves (λ c. 1) (λ c. getD entitled c 0), by-agent moves (λ i. cuts + 1) (λ i. getD groups i 0))
             (stepped (asRead s) (st moves) (a moves));
-        tabled = C .tabled;
+        kept = λ h. absurd (true≢false h);
+        tabled = t;
       }

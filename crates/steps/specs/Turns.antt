@@ -1,5 +1,6 @@
 -- What a turn of the loop is given, and what it names: one step of Algorithm 1 on a state of lists.
 use Prim.Native.Nat.{ℕ, _+_, _*_, _-_, _<_}
+use mathlib.Core.Bool.{Bool, true, false}
 use mathlib.Core.List.{List}
 use mathlib.Core.Path.{_≡_}
 use lib.ListN.{length, getD}
@@ -32,6 +33,13 @@ actionOf (Moved chore giver receiver) = hand chore giver receiver
 actionOf Passed = pass
 actionOf Cut = cut
 actionOf Ended = stop
+
+-- it is the cut
+unfoldable pub isCut : Turn → Bool
+isCut (Moved chore giver receiver) = false
+isCut Passed = false
+isCut Cut = true
+isCut Ended = false
 
 -- the lists of a state with the core invariant
 pub record Ready (s owners prices groups entitled likes : List ℕ) : Type 0 where
@@ -71,4 +79,6 @@ pub record Turning (s owners prices groups entitled likes first sets : List ℕ)
 pub record Turned (s owners prices groups entitled likes : List ℕ) (cuts stage : ℕ) (answer : Turn) (owners′ prices′ groups′ entitled′ first′ sets′ : List ℕ) : Type 0 where
   pub acts : (moves : ℕ) → action (asRead s) (stateOf owners prices groups entitled moves cuts stage) ≡ actionOf answer
   pub steps : (moves : ℕ) → step (asRead s) (stateOf owners prices groups entitled moves cuts stage) ≡ named answer owners′ prices′ groups′ entitled′ moves cuts stage
+  -- only a cut changes the groups
+  pub kept : isCut answer ≡ false → groups′ ≡ groups
   pub tabled : Tabled s owners′ prices′ groups′ entitled′ likes first′ sets′

@@ -5,7 +5,7 @@ use Rattle.steps.proofs.fill_table.Statement.{statement}
 use Rattle.steps.proofs.fill_table.Tie as tie
 
 -- from the view back to the agents, and to the start
-abbrev read : tie.After-view → tie.After-agents
+abbrev read : tie.After-view-of → tie.After-agents
 read c = c .before
 
 abbrev start : tie.After-agents → tie.Start
@@ -14,8 +14,8 @@ start c = c .before .before .before .before .before .before .before .before .bef
 agents-requires : tie.Need-agents-requires
 agents-requires c κs = search needs
 
-view-requires : tie.Need-view-requires
-view-requires c κs = search needs
+view-of-requires : tie.Need-view-of-requires
+view-of-requires c κs = search needs
 
 fill-requires : tie.Need-fill-requires
 fill-requires c κs =
@@ -35,9 +35,9 @@ returns c =
     let seen = filled .before .before .before in
     let agents = read seen in
     let pre = start agents .pre in
-    tabled-by (seen .view .ensures) (rw (agents .agents .ensures .is, pre .ownersSized) at (filled .fill .ensures))
+    tabled-by (seen .view-of .ensures) (rw (agents .agents .ensures .is, pre .ownersSized) at (filled .fill .ensures))
 
 pub fill-table-spec : {M : Type 1} → statement M
 fill-table-spec =
     tie.close
-    (tie.spec agents-requires view-requires fill-requires same-length same-length-2 returns)
+    (tie.spec agents-requires view-of-requires fill-requires same-length same-length-2 returns)

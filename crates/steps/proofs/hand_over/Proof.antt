@@ -1,10 +1,13 @@
 -- `steps::hand_over` meets its contract.
-use Prim.Native.Nat.{_<_}
 use mathlib.Core.Path.{ap}
 use borrow.Author.Needs.{needs}
 use Rattle.steps.specs.declared.Turn.the-variants.{Moved}
 use Rattle.steps.proofs.hand_over.Statement.{statement}
 use Rattle.steps.proofs.hand_over.Tie as tie
+
+-- from the chore back to the start
+abbrev start : tie.After-first-of → tie.Start
+start c = c .before .before .before .before .before .before .before .before
 
 first-of-requires : tie.Need-first-of-requires
 first-of-requires c κs = search needs
@@ -12,7 +15,7 @@ first-of-requires c κs = search needs
 hand-on-requires : tie.Need-hand-on-requires
 hand-on-requires c κs =
     let found = c .before .before .before in
-    let pre = found .before .before .before .before .before .before .before .before .pre in
+    let pre = start found .pre in
     (pre .listed, pre .sized, rw (found .first-of .ensures) (pre .chore), pre .receiver)
 
 same-length : tie.Need-same-length
@@ -28,9 +31,9 @@ returns : tie.Need-returns
 returns c =
     let handed = c .before .before .before .before .before .before in
     let found = handed .before .before .before .before in
-    let start = found .before .before .before .before .before .before .before .before in
+    let seen = start found .args .seen in
     record {
-      told = ap (λ k. Moved k (start .args .giver) (start .args .receiver)) (found .first-of .ensures);
+      told = ap (λ k. Moved k (seen .giver) (seen .receiver)) (found .first-of .ensures);
       handed = rw (← found .first-of .ensures) (handed .hand-on .ensures);
     }
 

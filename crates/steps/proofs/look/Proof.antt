@@ -1,8 +1,11 @@
 -- `steps::look` meets its contract.
 use Prim.Native.Nat.{_≤_}
-use mathlib.Core.Path.{sym}
+use mathlib.Core.Logic.{⊎-elim}
+use mathlib.Core.Path.{refl, sym, ap, _∙_}
 use native.Mathlib.Omega.{arith}
 use borrow.Author.Needs.{needs}
+use Rattle.finite.specs.Bits.{bit}
+use Rattle.finite.specs.Search.{firstBelow}
 use Rattle.model.specs.Limits.{maxAgents}
 use Rattle.model.specs.Instance.{ownerOf, priceOf}
 use Rattle.model.specs.Sheet.{asRead}
@@ -55,7 +58,7 @@ least c = c .before .before .before
 
 -- the sums of the n agents that the code counts
 few : (c : tie.After-weigh) → read c .agents .result ≤ maxAgents
-few c = omega (arith, read c .agents .ensures .is, start (read c) .pre .0 .ready .valid .agentsFit)
+few c = omega (arith, read c .agents .ensures .is, start (read c) .pre .0 .looking .ready .valid .agentsFit)
 
 summed :
     (c : tie.After-weigh)
@@ -71,7 +74,7 @@ search-requires c κs =
     let fit = few sums in
     record {
       agents = fit;
-      offersFit = omega (arith, fit, pre .0 .rows .sized .setsSized);
+      offersFit = omega (arith, fit, pre .0 .looking .rows .sized .setsSized);
       sumsFit = omega (arith, fit, summed sums .sum .size);
       upsFit = omega (arith, fit, summed sums .size);
       scratchSized = pre .1;
@@ -89,35 +92,38 @@ unfolding asRead
 found c =
     let sums = weighed (c .before) in
     let n-is = read sums .agents .ensures .is in
-    c .search .ensures .searched _ _ _ (sym n-is) (searching (start (read sums) .pre .0) n-is (summed sums) (least (c .before) .least-of .ensures))
+    c .search .ensures .searched _ _ _ (sym n-is) (searching (start (read sums) .pre .0 .looking) n-is (summed sums) (least (c .before) .least-of .ensures))
 
 any-above-requires : tie.Need-any-above-requires
 any-above-requires c κs =
     let sums = weighed (c .before .before .before .before .before .before) in
     omega (arith, few sums, summed sums .size)
 
+lowest-requires : tie.Need-lowest-requires
+lowest-requires c κs = few (weighed (c .before .before .before .before .before))
+
 same-length : tie.Need-same-length
 same-length c = search needs
 
 returns : tie.Need-returns
 returns c =
-    let searched = c .before .before .before .before in
+    let join = c .before in
+    let searched = join .before .before .before .before in
     let sums = weighed (searched .before) in
+    let agents = read sums in
+    let ready = start agents .pre .0 .looking .ready in
+    let n-is = agents .agents .ensures .is in
     record {
+      size = search needs;
+      takers = searched .search .result .takers;
       searched = found searched;
-      anyIs = any-giver (start (read sums) .pre .0 .ready) (read sums .agents .ensures .is) (summed sums) (found searched) (c .if1 .taken);
-    }
-
-same-length-2 : tie.Need-same-length-2
-same-length-2 c = search needs
-
-returns-2 : tie.Need-returns-2
-returns-2 c =
-    let searched = c .before .before .before .before .before .before in
-    let sums = weighed (searched .before) in
-    record {
-      searched = found searched;
-      anyIs = any-is (start (read sums) .pre .0 .ready) (read sums .agents .ensures .is) (summed sums) (least (searched .before) .least-of .ensures) (c .any-above .ensures);
+      receives = c .lowest .ensures ∙ ap (λ n. firstBelow n (bit (searched .search .result .takers))) n-is;
+      soughtIs = refl;
+      anyIs =
+          ⊎-elim
+          (λ w. w .1 ∙ any-giver ready n-is (summed sums) (found searched) (w .0 .taken))
+          (λ w. w .3 ∙ any-is ready n-is (summed sums) (least (searched .before) .least-of .ensures) (w .2 .ensures))
+          (join .if1 .came);
     }
 
 pub look-spec : {M : Type 1} → statement M
@@ -135,7 +141,6 @@ look-spec =
     search-requires
     slice-aggregate-any-above
     any-above-requires
+    lowest-requires
     same-length
-    returns
-    same-length-2
-    returns-2)
+    returns)

@@ -16,7 +16,7 @@ abbrev start : tie.After-add-up → tie.Start
 start c = c .before .before .before .before .before .before
 
 add-up-requires : tie.Need-add-up-requires
-add-up-requires c κs = let pre = c .before .before .before .before .before .pre in (held (pre .0 .ready), pre .1 .0)
+add-up-requires c κs = let pre = c .before .before .before .before .before .pre in (held (pre .0 .looking .ready), pre .1 .0)
 
 agents-requires : tie.Need-agents-requires
 agents-requires c κs = search needs
@@ -26,13 +26,13 @@ rests-requires c κs =
     let agents = read c in
     let sums = added agents in
     let pre = start sums .pre in
-    weighable (pre .0) (sums .add-up .ensures) (agents .agents .ensures .is) (pre .1 .1)
+    weighable (pre .0 .looking) (sums .add-up .ensures) (agents .agents .ensures .is) (pre .1 .1)
 
 returns : tie.Need-returns
 returns c =
     let agents = read (c .before) in
     let sums = added agents in
-    summed (start sums .pre .0) (sums .add-up .ensures) (agents .agents .ensures .is) (c .rests .ensures)
+    summed (start sums .pre .0 .looking) (sums .add-up .ensures) (agents .agents .ensures .is) (c .rests .ensures)
 
 pub weigh-spec : {M : Type 1} → statement M
 weigh-spec = tie.close (tie.spec add-up-requires agents-requires rests-requires returns)

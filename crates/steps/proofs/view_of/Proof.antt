@@ -1,12 +1,12 @@
--- `steps::view` meets its contract.
+-- `steps::view_of` meets its contract.
 use Prim.Native.Nat.{ℕ, _*_, _^_, _≤_, _<_}
 use mathlib.Core.Path.{ap₂}
 use native.Mathlib.Nat.{mul-le-mul}
 use native.Mathlib.Omega.{arith}
 use borrow.Author.Needs.{needs}
 use Rattle.model.specs.Limits.{maxWeight}
-use Rattle.steps.proofs.view.Statement.{statement}
-use Rattle.steps.proofs.view.Tie as tie
+use Rattle.steps.proofs.view_of.Statement.{statement}
+use Rattle.steps.proofs.view_of.Tie as tie
 
 product-fits : {x y : ℕ} → x ≤ maxWeight → y ≤ maxWeight → x * y < 2 ^ 32
 product-fits h l = omega (arith, mul-le-mul h l)
@@ -47,8 +47,8 @@ returns c =
     let b = c .before .difficult-weight .ensures .is in
     record { sides = rw (start c .pre .1) at (c .by-group .ensures); lowIs = ap₂ _*_ a a; midIs = ap₂ _*_ a b; topIs = ap₂ _*_ b b }
 
-pub view-spec : {M : Type 1} → statement M
-view-spec =
+pub view-of-spec : {M : Type 1} → statement M
+view-of-spec =
     tie.close
     (tie.spec
     easy-weight-requires
