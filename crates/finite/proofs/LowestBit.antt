@@ -1,18 +1,20 @@
 -- Going through the set bits of a word from the lowest on.
 -- Assumes nothing.
-use Prim.Native.Nat.{ℕ, zero, suc, _-_, _*_, _/_, _%_, _^_, _≤_, _<_}
+use Prim.Native.Nat.{ℕ, zero, suc, _+_, _-_, _*_, _/_, _%_, _^_, _≤_, _<_, min}
 use mathlib.Core.Bool.{Bool, true, false, not, _&&_, and-true, and-not-self, or-false}
 use mathlib.Core.Path.{_≡_, refl, sym, ap, ap₂, _∙_}
-use native.Mathlib.Nat.{le-refl, lt-of-lt-of-le, div-one, pow-suc}
+use native.Mathlib.Nat.{le-refl, le-of-suc-le-suc, lt-of-lt-of-le, div-one, pow-suc}
 use native.Mathlib.Omega.{arith}
-use lib.Bits.{bitOr}
-use lib.Count.{trailingZeros, under}
+use lib.Bits.{bitAnd, bitOr, and-step, and-self}
+use lib.Count.{trailingZeros, trailing-of-zero, under}
 use lib.Dec.{eqb, eqb·zero-suc, eqb·suc-zero, eqb·suc-suc}
 use lib.Pow.{pow-mono}
 use borrow.Author.Tests.{eqb-true, ne-eqb}
 use Rattle.finite.specs.Bits.{bit, SetOf}
+use Rattle.finite.specs.Search.{firstBelow}
 use Rattle.finite.proofs.Tests.{clash, and-elim, and-no-left, and-no-right, or-right, eqb-same}
-use Rattle.finite.proofs.Below.{by-less, by-same}
+use Rattle.finite.proofs.Below.{none-below, by-less, by-same}
+use Rattle.finite.proofs.Search.{first-unique, first-none-intro}
 use Rattle.finite.proofs.Bits.{bit-zero, bit-above, bit-half, half-lt, shift-one, set-none, set-cong, set-insert}
 
 -- the lowest bit tells whether the word is odd
@@ -36,6 +38,46 @@ lowest-set (suc d) w h l = go (w % 2) refl (λ e. lowest-set d (w / 2) (omega ar
     go : (r : ℕ) → w % 2 ≡ r → (w % 2 ≡ 0 → bit (w / 2) (trailingZeros d (w / 2)) ≡ true) → bit w (under r (trailingZeros d (w / 2))) ≡ true
     go zero e ih = sym (bit-half w (trailingZeros d (w / 2))) ∙ ih e
     go (suc r) e ih = odd-bit w (omega arith)
+
+-- below them none is
+pub lowest-clear : (d w i : ℕ) → i < trailingZeros d w → bit w i ≡ false
+unfolding trailingZeros
+lowest-clear zero w i l = none-below l
+lowest-clear (suc d) w i l = go (w % 2) refl i l (lowest-clear d (w / 2))
+  where
+    go : (r : ℕ) → w % 2 ≡ r → (i : ℕ) → i < under r (trailingZeros d (w / 2)) → ((j : ℕ) → j < trailingZeros d (w / 2) → bit (w / 2) j ≡ false) → bit w i ≡ false
+    go zero e zero l ih = bit-low w ∙ ap (λ r. eqb r 1) e
+    go zero e (suc i) l ih = sym (bit-half w i) ∙ ih i (le-of-suc-le-suc l)
+    go (suc r) e i l ih = none-below l
+
+-- the first set bit of those below n
+
+module _ (d w n : ℕ) where
+  pub first-set : w < 2 ^ d → n ≤ d → trailingZeros d w < n → firstBelow n (λ i. bit w i) ≡ trailingZeros d w
+  first-set few le l =
+      by-same w 0
+      (λ e. absurd (let z : ⊥ = omega (arith, ap (trailingZeros d) e ∙ trailing-of-zero d) in z))
+      (λ ne. first-unique (record { below = l; passes = lowest-set d w (omega arith) few; before = lowest-clear d w }))
+
+  pub none-set : n ≤ trailingZeros d w → firstBelow n (λ i. bit w i) ≡ n
+  none-set le = first-none-intro n (λ i. bit w i) (λ i l. lowest-clear d w i (lt-of-lt-of-le l le))
+
+-- a word and the number before it: the lowest set bit is dropped
+pub lowest-drop : (d w : ℕ) → 0 < w → w < 2 ^ d → bitAnd w (w - 1) ≡ w - 2 ^ trailingZeros d w
+unfolding trailingZeros
+lowest-drop zero w h l = absurd (let e : ⊥ = omega arith in e)
+lowest-drop (suc d) w h l = and-step w (w - 1) ∙ go (w % 2) refl (λ e. lowest-drop d (w / 2) (omega arith) (half-lt d l))
+  where
+    go :
+        (r : ℕ) → w % 2 ≡ r → (w % 2 ≡ 0 → bitAnd (w / 2) (w / 2 - 1) ≡ w / 2 - 2 ^ trailingZeros d (w / 2))
+        → bitAnd (w / 2) ((w - 1) / 2) * 2 + min (w % 2) ((w - 1) % 2) ≡ w - 2 ^ under r (trailingZeros d (w / 2))
+    go zero e ih =
+        let half : (w - 1) / 2 ≡ w / 2 - 1 = omega arith in
+        rw (e, half, ih e, pow-suc 2 (trailingZeros d (w / 2))) (omega arith)
+    go (suc r) e ih =
+        let half : (w - 1) / 2 ≡ w / 2 = omega arith in
+        let even : (w - 1) % 2 ≡ 0 = omega arith in
+        rw (half, even, and-self (w / 2)) (omega arith)
 
 module _ (w t : ℕ) (h : bit w t ≡ true) where
   -- a set bit is below the bound of the word, and its power of 2 at most the word
@@ -91,21 +133,23 @@ pub passed-all : (w t : ℕ) → passed w 0 t ≡ bit w t
 unfolding passed
 passed-all w t = and-keep (bit w t) (bit-zero t)
 
--- bit t is one of those left, and below n; the code shifts 1 by it in a word of d bits
+-- bit t is one of those left, and below n; the code shifts 1 by it in a word of d bits, and drops it
 pub record Lowest (n d rest t : ℕ) : Type 0 where
   pub isSet : bit rest t ≡ true
   pub below : t < n
   pub part : 2 ^ t ≤ rest
   pub shifted : 1 * 2 ^ t % 2 ^ d ≡ 2 ^ t
+  pub dropped : bitAnd rest (rest - 1) ≡ rest - 2 ^ t
 
 -- the lowest of them
 pub lowest : {n w rest : ℕ} (d : ℕ) → n ≤ d → w < 2 ^ n → Rest w rest → 0 < rest → Lowest n d rest (trailingZeros d rest)
 lowest {n} {w} {rest} d le l r h =
     let few : rest < 2 ^ n = omega (arith, r .small) in
-    let on = lowest-set d rest h (lt-of-lt-of-le few (pow-mono le)) in
+    let fits = lt-of-lt-of-le few (pow-mono le) in
+    let on = lowest-set d rest h fits in
     let t = trailingZeros d rest in
     let m : t < n = set-bit-below rest t on few in
-    record { isSet = on; below = m; part = set-bit-le rest t on; shifted = shift-one (lt-of-lt-of-le m le) }
+    record { isSet = on; below = m; part = set-bit-le rest t on; shifted = shift-one (lt-of-lt-of-le m le); dropped = lowest-drop d rest h fits }
 
 -- one more is passed
 module _ {w rest : ℕ} (t : ℕ) (r : Rest w rest) (h : bit rest t ≡ true) where

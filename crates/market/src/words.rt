@@ -37,12 +37,9 @@ pub fn lowest(w: u32, n: usize) -> usize
     requires { ⌜ n ≤ maxAgents ⌝ }
     ensures { λ r. ⌜ r ≡ firstBelow n (λ i. bit w i) ⌝ }
 {
-    let mut i = 0;
-    while i < n {
-        if has(w, i) {
-            return i;
-        }
-        i += 1;
+    let t = u32::trailing_zeros(w) as usize;
+    if t < n {
+        return t;
     }
     n
 }
