@@ -22,7 +22,7 @@ pub fn not_before(first: &[u16], w: usize, c: usize, word: u64) -> u64
         if first[w * TRAITS + t] as usize >= c {
             found = found | (1u64 << t);
         }
-        rest = rest - (1u64 << t);
+        rest = rest & (rest - 1);
     }
     found
 }
@@ -36,7 +36,7 @@ pub fn put(first: &mut [u16], w: usize, c: usize, word: u64)
     while rest != 0 {
         let t = u64::trailing_zeros(rest) as usize;
         first[w * TRAITS + t] = c as u16;
-        rest = rest - (1u64 << t);
+        rest = rest & (rest - 1);
     }
 }
 

@@ -50,22 +50,19 @@ cast-if1 c = omega (arith, c .shared-slice-known .given (c .before .before .befo
 shl-found : tie.Need-shl-found Inv-loop μ-loop
 shl-found c = omega (arith, turn (c .before .before) .below)
 
-shl-rest : tie.Need-shl-rest Inv-loop μ-loop
-shl-rest c = omega (arith, turn (c .before .before) .below)
-
 sub-rest : tie.Need-sub-rest Inv-loop μ-loop
-sub-rest c = let lowest = turn (c .before .before) in rw (lowest .shifted) (lowest .part)
+sub-rest c = omega arith
 
 loop-less : tie.Need-loop-less Inv-loop μ-loop
 loop-less c =
     let lowest = turn (c .before .before) in
-    rw (lowest .shifted) (omega (arith, lowest .part, pow-pos (trailingZeros 64 (c .before .before .before .loop .rest))))
+    rw (lowest .dropped) (omega (arith, lowest .part, pow-pos (trailingZeros 64 (c .before .before .before .loop .rest))))
 
 loop-again : tie.Need-loop-again Inv-loop μ-loop
 loop-again c =
     let lowest = turn (c .before .before) in
     let inv = c .before .before .before .loop .inv in
-    rw (lowest .shifted) (
+    rw (lowest .dropped) (
       rest-next _ (inv .0) (lowest .isSet),
       ⊎-elim
           (λ w. rw (w .1, lowest .shifted) (kept-take _ _ (inv .1) (inv .0) (lowest .isSet) (lowest .below) (le-leb _ _ (w .0 .taken))))
@@ -92,7 +89,6 @@ not-before-spec =
     shared-slice-read-if1
     cast-if1
     shl-found
-    shl-rest
     sub-rest
     loop-less
     loop-again

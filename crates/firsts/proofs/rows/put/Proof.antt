@@ -47,20 +47,17 @@ mul-first-2 c = omega (arith, turn c .below, c .before .before .pre .0 .agent)
 slice-write-first : tie.Need-slice-write-first Inv-loop μ-loop
 slice-write-first c = omega (arith, room c, c .before .loop .inv .1 .size)
 
-shl-rest : tie.Need-shl-rest Inv-loop μ-loop
-shl-rest c = omega (arith, turn c .below)
-
 sub-rest : tie.Need-sub-rest Inv-loop μ-loop
-sub-rest c = rw (turn c .shifted) (turn c .part)
+sub-rest c = omega arith
 
 loop-less : tie.Need-loop-less Inv-loop μ-loop
-loop-less c = rw (turn c .shifted) (omega (arith, turn c .part, pow-pos (trailingZeros 64 (c .before .loop .rest))))
+loop-less c = rw (turn c .dropped) (omega (arith, turn c .part, pow-pos (trailingZeros 64 (c .before .loop .rest))))
 
 loop-again : tie.Need-loop-again Inv-loop μ-loop
 loop-again c =
     let lowest = turn c in
     let inv = c .before .loop .inv in
-    rw (lowest .shifted) (rest-next _ (inv .0) (lowest .isSet), putting-next _ (inv .1) (inv .0) (lowest .isSet) (lowest .below) (room c))
+    rw (lowest .dropped) (rest-next _ (inv .0) (lowest .isSet), putting-next _ (inv .1) (inv .0) (lowest .isSet) (lowest .below) (room c))
 
 same-length : tie.Need-same-length Inv-loop μ-loop
 same-length c = c .before .loop .inv .1 .size
@@ -83,7 +80,6 @@ put-spec =
     add-first
     mul-first-2
     slice-write-first
-    shl-rest
     sub-rest
     loop-less
     loop-again
