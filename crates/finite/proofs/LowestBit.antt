@@ -133,6 +133,11 @@ pub passed-all : (w t : ℕ) → passed w 0 t ≡ bit w t
 unfolding passed
 passed-all w t = and-keep (bit w t) (bit-zero t)
 
+-- not while it is left
+pub passed-left : (w rest t : ℕ) → bit rest t ≡ true → passed w rest t ≡ false
+unfolding passed
+passed-left w rest t h = and-no-right (bit w t) (ap not h)
+
 -- bit t is one of those left, and below n; the code shifts 1 by it in a word of d bits, and drops it
 pub record Lowest (n d rest t : ℕ) : Type 0 where
   pub isSet : bit rest t ≡ true

@@ -1,5 +1,5 @@
 // The rows of the table, a place for each trait. A set of traits is the bits of a word, which are gone through from the lowest on.
-ghost use Prim.Native.Nat.{_+_, _*_, _≤_, _<_};
+ghost use Prim.Native.Nat.{_+_, _*_, _≤_, _<_, min};
 ghost use mathlib.Core.Bool.{_&&_};
 ghost use mathlib.Core.Path.{_≡_};
 ghost use lib.Dec.{leb};
@@ -40,12 +40,24 @@ pub fn put(first: &mut [u16], w: usize, c: usize, word: u64)
     }
 }
 
-// Agent w gains chore c, which has these traits: the earlier chore is the first.
+// The earlier of two chores.
+fn earlier(c: u16, d: u16) -> u16
+    ensures { λ r. ⌜ r ≡ min c d ⌝ }
+{
+    if c < d { c } else { d }
+}
+
+// Agent w gains chore c, which has these traits: the earlier chore is the first. Each entry is stored, changed or not, as a test would often
+// be guessed wrong.
 pub fn gain(first: &mut [u16], sets: &mut [u64], w: usize, c: usize, word: u64)
     requires { ⌜ Spot (now first) w word × (c ≤ maxChores) × (length (now sets) ≡ maxAgents) ⌝ }
     ensures { λ r. ⌜ Gained w c word (now (first .entry)) (now (sets .entry)) (now (first .exit)) (now (sets .exit)) ⌝ }
 {
-    let new = not_before(first, w, c, word);
-    put(first, w, c, new);
+    let mut rest = word;
+    while rest != 0 {
+        let t = u64::trailing_zeros(rest) as usize;
+        first[w * TRAITS + t] = earlier(c as u16, first[w * TRAITS + t]);
+        rest = rest & (rest - 1);
+    }
     sets[w] = sets[w] | word;
 }

@@ -7,18 +7,18 @@ use lib.ListN.{length}
 use lib.Pow.{pow-pos}
 use Rattle.finite.proofs.LowestBit.{Rest, Lowest, lowest, rest-all, rest-next}
 use Rattle.firsts.specs.Traits.{traitCount}
-use Rattle.firsts.proofs.Placing.{Putting, putting-none, putting-next, putting-all}
+use Rattle.firsts.proofs.Placing.{Placing, placing-none, placing-next, placed}
 use Rattle.firsts.proofs.rows.put.Statement.{statement}
 use Rattle.firsts.proofs.rows.put.Tie as tie
 
 abbrev Inv-loop : tie.InvT-loop
-Inv-loop first₀ w c word rest₀ first rest = Rest word rest × Putting w c word rest first₀ first
+Inv-loop first₀ w c word rest₀ first rest = Rest word rest × Placing w word rest (λ d. c) first₀ first
 
 abbrev μ-loop : tie.MeasureT-loop
 μ-loop first₀ w c word rest₀ first rest = rest
 
 loop-holds : tie.Need-loop-holds Inv-loop μ-loop
-loop-holds c = (rest-all _, putting-none _ _ _ _)
+loop-holds c = (rest-all _, placing-none _ _ _ _)
 
 -- the trait of a turn, and its place
 turn : (c : tie.In-loop Inv-loop μ-loop) → Lowest traitCount 64 (c .before .loop .rest) (trailingZeros 64 (c .before .loop .rest))
@@ -57,7 +57,7 @@ loop-again : tie.Need-loop-again Inv-loop μ-loop
 loop-again c =
     let lowest = turn c in
     let inv = c .before .loop .inv in
-    rw (lowest .dropped) (rest-next _ (inv .0) (lowest .isSet), putting-next _ (inv .1) (inv .0) (lowest .isSet) (lowest .below) (room c))
+    rw (lowest .dropped) (rest-next _ (inv .0) (lowest .isSet), placing-next _ (inv .1) (inv .0) (lowest .isSet) (c .before .before .pre .0 .agent) (lowest .below) (room c))
 
 same-length : tie.Need-same-length Inv-loop μ-loop
 same-length c = c .before .loop .inv .1 .size
@@ -65,7 +65,7 @@ same-length c = c .before .loop .inv .1 .size
 returns : tie.Need-returns Inv-loop μ-loop
 returns c =
     let done : c .before .loop .rest ≡ 0 = omega arith in
-    putting-all (rw done at (c .before .loop .inv .1))
+    placed (rw done at (c .before .loop .inv .1))
 
 pub put-spec : {M : Type 1} → statement M
 put-spec =
