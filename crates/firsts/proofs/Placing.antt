@@ -1,4 +1,4 @@
--- Laws of the table's rows: a set of traits put into a row, or looked through, trait by trait.
+-- Laws of the table's rows: the entries of a set of traits changed in a row, trait by trait.
 -- Assumes nothing.
 use Prim.Native.Nat.{ℕ, _+_, _-_, _*_, _^_, _<_, min}
 use mathlib.Core.Bool.{true, cond, _&&_}
