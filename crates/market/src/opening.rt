@@ -1,10 +1,13 @@
 // The opening: who finds what easy in the share-out's reading, the first owners and prices.
-ghost use Prim.Native.Nat.{_≤_, _<_};
+ghost use Prim.Native.Nat.{_+_, _*_, _≤_, _<_};
 ghost use mathlib.Core.Bool.{true};
+ghost use mathlib.Core.Path.{_≡_};
+ghost use lib.ListN.{length, replicate};
 ghost use Rattle.finite.specs.Bits.{SetOf};
 ghost use Rattle.model.specs.Limits.{maxAgents};
-ghost use Rattle.model.specs.Sheet.{asRead, allDifficult};
-ghost use Rattle.market.specs.Opened.{OpenOn, OpenIn, OpensWith, OpenInto, Opened};
+ghost use Rattle.model.specs.Sheet.{allDifficult};
+ghost use Rattle.sheet.specs.Readers.{RowInSheet};
+ghost use Rattle.market.specs.Opened.{OpenOn, ByteOf, Marked, OpensWith, OpenInto, Opened};
 use crate::words::lowest;
 use crate::words::with;
 use crate::words::with_easy;
@@ -25,18 +28,58 @@ pub fn all_difficult_rows(sheet: &[u8], n: usize, m: usize) -> u32
     w
 }
 
-// The agents who find chore c easy: those who mark it so, and those whose row is all difficult.
-fn easy_for(sheet: &[u8], n: usize, m: usize, all: u32, c: usize) -> u32
-    requires { ⌜ OpenIn (now sheet) n m all c ⌝ }
-    ensures { λ r. ⌜ SetOf n r (λ i. asRead (now (sheet .entry)) .easy i c) ⌝ }
+// Nobody, for every chore.
+fn clear(likes: &mut [u32])
+    ensures { λ r. ⌜ now (likes .exit) ≡ replicate (length (now (likes .entry))) 0 ⌝ }
 {
-    let mut w = 0u32;
+    let mut c = 0;
+    while c < likes.len() {
+        likes[c] = 0;
+        c += 1;
+    }
+}
+
+// The first `count` marks of byte k of agent i's row: the agent joins those who mark the chore easy. Callers give 8 as it stands, so that the
+// loop is laid out mark by mark.
+fn add_byte(sheet: &[u8], m: usize, i: usize, k: usize, count: usize, likes: &mut [u32])
+    requires { ⌜ ByteOf (now sheet) m i k count × Marked (now sheet) i (8 * k) (now likes) ⌝ }
+    ensures { λ _. ⌜ Marked (now (sheet .entry)) i (8 * k + count) (now (likes .exit)) ⌝ }
+{
+    let byte = sheet::row_byte(sheet, m, i, k);
+    let mut j = 0;
+    while j < count {
+        let c = 8 * k + j;
+        likes[c] = with_easy(likes[c], i, sheet::mark_in(byte, j));
+        j += 1;
+    }
+}
+
+// The marks of agent i's row: the bytes that are full, and what is left.
+fn add_row(sheet: &[u8], m: usize, i: usize, likes: &mut [u32])
+    requires { ⌜ RowInSheet (now sheet) m i × Marked (now sheet) i 0 (now likes) ⌝ }
+    ensures { λ _. ⌜ Marked (now (sheet .entry)) (i + 1) 0 (now (likes .exit)) ⌝ }
+{
+    let mut k = 0;
+    while k < m / 8 {
+        add_byte(sheet, m, i, k, 8, likes);
+        k += 1;
+    }
+    if 8 * k < m {
+        add_byte(sheet, m, i, k, m - 8 * k, likes);
+    }
+}
+
+// For each chore the agents who mark it easy. Row by row, since a row's bytes lie side by side.
+fn add_rows(sheet: &[u8], n: usize, m: usize, likes: &mut [u32])
+    requires { ⌜ OpenOn (now sheet) n m × (length (now likes) ≡ m) ⌝ }
+    ensures { λ _. ⌜ Marked (now (sheet .entry)) n 0 (now (likes .exit)) ⌝ }
+{
+    clear(likes);
     let mut i = 0;
     while i < n {
-        w = with_easy(w, i, sheet::mark_at(sheet, m, i, c));
+        add_row(sheet, m, i, likes);
         i += 1;
     }
-    w | all
 }
 
 // Everybody.
@@ -82,10 +125,11 @@ pub fn open(
     let b = sheet::difficult_weight(sheet);
     let all = all_difficult_rows(sheet, n, m);
     let anyone = everyone(n);
+    add_rows(sheet, n, m, likes);
     let mut held = totals::zeros();
     let mut c = 0;
     while c < m {
-        let easy = easy_for(sheet, n, m, all, c);
+        let easy = likes[c] | all;
         let owner = opens_with(n, easy, &held);
         held[owner] += 1;
         owners[c] = owner as u8 + 1;

@@ -5,12 +5,15 @@ use mathlib.Core.Path.{_≡_, _∙_}
 use mathlib.Core.Logic.{⊎-elim}
 use native.Mathlib.Nat.{mul-le-mul}
 use native.Mathlib.Omega.{arith}
+use lib.Bits.{bitOr}
+use lib.ListN.{getD}
+use Rattle.finite.specs.Bits.{SetOf}
 use Rattle.model.specs.Limits.{maxAgents}
-use Rattle.model.specs.Sheet.{choresOf, asRead}
+use Rattle.model.specs.Sheet.{agentsOf, choresOf, asRead}
 use Rattle.model.specs.Algorithm.{openingOwner}
 use Rattle.algorithm.proofs.Opening.{opening-below}
 use borrow.Author.Needs.{needs}
-use Rattle.market.proofs.Opens.{Opens, owner-opens, opens-dear, opens-easy, opens-none, count-room, opens-next, opens-all}
+use Rattle.market.proofs.Opens.{Opens, owner-opens, opens-dear, opens-easy, opens-none, easy-next, count-room, opens-next, opens-all}
 use Rattle.market.proofs.opening.open.Statement.{statement}
 use Rattle.market.proofs.opening.open.Tie as tie
 
@@ -21,15 +24,18 @@ Inv-loop sheet n m owners₀ prices₀ likes₀ a b all anyone held₀ c₀ owne
 abbrev μ-loop : tie.MeasureT-loop
 μ-loop sheet n m owners₀ prices₀ likes₀ a b all anyone held₀ c₀ owners prices likes held c = m - c
 
--- the way back from where a chore's owner is known to its turn, from there to what comes before the loop, and to the start
+-- the way back from where a chore's owner is known to its turn, from there to what comes before the loop, to what the sheet says, and to the start
 abbrev turn : tie.After-opens-with Inv-loop μ-loop → tie.In-loop Inv-loop μ-loop
 turn c = c .before .before .before
 
 abbrev begun : tie.After-opens-with Inv-loop μ-loop → tie.After-zeros Inv-loop μ-loop
 begun c = turn c .before .before
 
+abbrev read : tie.After-zeros Inv-loop μ-loop → tie.After-everyone Inv-loop μ-loop
+read c = c .before .before .before .before .before
+
 abbrev start : tie.After-zeros Inv-loop μ-loop → tie.Start Inv-loop μ-loop
-start c = c .before .before .before .before .before .before .before .before .before
+start c = read c .before .before .before .before .before .before .before .before
 
 easy-weight-requires : tie.Need-easy-weight-requires Inv-loop μ-loop
 easy-weight-requires c κs = search needs
@@ -43,6 +49,9 @@ all-difficult-rows-requires c κs = search needs
 everyone-requires : tie.Need-everyone-requires Inv-loop μ-loop
 everyone-requires c κs = search needs
 
+add-rows-requires : tie.Need-add-rows-requires Inv-loop μ-loop
+add-rows-requires c κs = search needs
+
 zeros-requires : tie.Need-zeros-requires Inv-loop μ-loop
 zeros-requires c κs = search needs
 
@@ -50,19 +59,31 @@ loop-holds : tie.Need-loop-holds Inv-loop μ-loop
 loop-holds c =
     let pre = start c .pre in
     let m = pre .on .chores in
-    (omega arith, opens-none (c .zeros .ensures) (pre .ownersSized ∙ m) (pre .pricesSized ∙ m) (pre .likesSized ∙ m))
+    let marked = rw (pre .on .agents) at (c .before .before .before .add-rows .ensures) in
+    (omega arith, opens-none (c .zeros .ensures) (pre .ownersSized ∙ m) (pre .pricesSized ∙ m) marked)
 
-easy-for-requires : tie.Need-easy-for-requires Inv-loop μ-loop
-easy-for-requires c κs = search needs
+mul-easy : tie.Need-mul-easy Inv-loop μ-loop
+mul-easy c = search needs
+
+slice-read-easy : tie.Need-slice-read-easy Inv-loop μ-loop
+slice-read-easy c = search needs
 
 opens-with-requires : tie.Need-opens-with-requires Inv-loop μ-loop
 opens-with-requires c κs = search needs
+
+-- the word of the chore at work holds the agents who find it easy
+easy-is :
+  (c : tie.After-opens-with Inv-loop μ-loop)
+  → SetOf (agentsOf (start (begun c) .args .sheet .now)) (bitOr (getD (turn c .before .loop .likes) (turn c .before .loop .c) 0) (read (begun c) .before .all-difficult-rows .result)) (λ i. asRead (start (begun c) .args .sheet .now) .easy i (turn c .before .loop .c))
+easy-is c =
+    let on = start (begun c) .pre .on in
+    easy-next (turn c .before .loop .inv .1) (omega (arith, on .chores)) (on .agents) (read (begun c) .before .all-difficult-rows .ensures)
 
 owner-is : (c : tie.After-opens-with Inv-loop μ-loop) → c .opens-with .result ≡ openingOwner (asRead (start (begun c) .args .sheet .now)) (turn c .before .loop .c)
 owner-is c =
     let on = start (begun c) .pre .on in
     let loop = turn c .before .loop in
-    owner-opens (start (begun c) .args .sheet .now) (loop .c) (on .agents) (c .before .before .easy-for .ensures) (on .valid .agentsFit) (loop .inv .1 .counted) (c .opens-with .ensures)
+    owner-opens (start (begun c) .args .sheet .now) (loop .c) (on .agents) (easy-is c) (on .valid .agentsFit) (loop .inv .1 .counted) (c .opens-with .ensures)
 
 -- the owner is an agent, so has a count, and its number fits a byte
 owner-fits : (c : tie.After-opens-with Inv-loop μ-loop) → c .opens-with .result < maxAgents
@@ -96,7 +117,7 @@ slice-write-owners c = search needs
 
 mul-prices : tie.Need-mul-prices Inv-loop μ-loop
 mul-prices c =
-    let weight = begun (c .before) .before .before .before .difficult-weight in
+    let weight = read (begun (c .before)) .before .before .difficult-weight in
     let b : weight .result ≤ 65535 = omega (arith, weight .ensures .below) in
     omega (arith, mul-le-mul b b)
 
@@ -114,7 +135,7 @@ slice-write-likes c = search needs
 
 mul-prices-3 : tie.Need-mul-prices-3 Inv-loop μ-loop
 mul-prices-3 c =
-    let weights = begun (c .before) .before .before .before in
+    let weights = read (begun (c .before)) .before .before in
     let a : weights .before .easy-weight .result ≤ 65535 = omega (arith, weights .before .easy-weight .ensures .below) in
     let b : weights .difficult-weight .result ≤ 65535 = omega (arith, weights .difficult-weight .ensures .below) in
     omega (arith, mul-le-mul a b)
@@ -144,13 +165,13 @@ loop-again c =
     let s = start (begun known) .args .sheet .now in
     let on = start (begun known) .pre .on in
     let l : loop .c < choresOf s = omega (arith, on .chores) in
-    let easy = known .before .before .easy-for .ensures in
-    let weights = begun known .before .before .before in
+    let easy = easy-is known in
+    let weights = read (begun known) .before .before in
     let a = weights .before .easy-weight .ensures .is in
     let b = weights .difficult-weight .ensures .is in (
       omega arith,
       ⊎-elim
-          (λ w. rw (w .1, w .2) (opens-next (loop .inv .1) l (owner-is known) (owner-fits known) (opens-dear s (loop .c) (on .agents) easy (w .0 .taken) b (begun known .before .everyone .ensures))))
+          (λ w. rw (w .1, w .2) (opens-next (loop .inv .1) l (owner-is known) (owner-fits known) (opens-dear s (loop .c) (on .agents) easy (w .0 .taken) b (read (begun known) .everyone .ensures))))
           (λ w. rw (w .1, w .2) (opens-next (loop .inv .1) l (owner-is known) (owner-fits known) (opens-easy s (loop .c) (on .agents) easy (w .0 .left) a b)))
           (c .if1 .came),
     )
@@ -180,9 +201,11 @@ open-spec =
     difficult-weight-requires
     all-difficult-rows-requires
     everyone-requires
+    add-rows-requires
     zeros-requires
     loop-holds
-    easy-for-requires
+    mul-easy
+    slice-read-easy
     opens-with-requires
     mul-held
     array-read-held
