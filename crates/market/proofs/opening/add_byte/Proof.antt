@@ -50,7 +50,7 @@ mark-in-requires : tie.Need-mark-in-requires Inv-loop μ-loop
 mark-in-requires c κs = search needs
 
 with-easy-requires : tie.Need-with-easy-requires Inv-loop μ-loop
-with-easy-requires c κs = 
+with-easy-requires c κs =
     let turn = c .before .before in
     let row = start turn .pre .0 .row in
     let hard = bit (turn .before .before .row-byte .result) (7 - turn .before .loop .j) in
@@ -69,7 +69,7 @@ loop-less : tie.Need-loop-less Inv-loop μ-loop
 loop-less c = search needs
 
 loop-again : tie.Need-loop-again Inv-loop μ-loop
-loop-again c = 
+loop-again c =
     let turn = c .before .before .before in
     let from = start turn in
     let loop = turn .before .loop in
@@ -79,12 +79,12 @@ loop-again c =
     (omega arith, rw next (marked-next (loop .inv .1) (there turn) (rw (← mark) (c .with-easy .ensures))))
 
 same-length : tie.Need-same-length Inv-loop μ-loop
-same-length c = 
+same-length c =
     let s = c .before .before .before .before .before in
     c .before .loop .inv .1 .likesSized ∙ sym (s .pre .1 .likesSized)
 
 returns : tie.Need-returns Inv-loop μ-loop
-returns c = 
+returns c =
     let loop = c .before .loop in
     let all : loop .j ≡ c .before .before .before .before .before .args .count = omega arith in
     rw all at (loop .inv .1)

@@ -18,7 +18,7 @@ loop-holds : tie.Need-loop-holds Inv-loop μ-loop
 loop-holds c = (omega arith, c .before .before .pre .1)
 
 add-byte-requires : tie.Need-add-byte-requires Inv-loop μ-loop
-add-byte-requires c κs = 
+add-byte-requires c κs =
     let at = c .before .before in
     (record { row = at .before .before .before .pre .0; some = omega arith; most = omega arith; within = omega arith }, at .loop .inv .1)
 
@@ -29,7 +29,7 @@ loop-less : tie.Need-loop-less Inv-loop μ-loop
 loop-less c = search needs
 
 loop-again : tie.Need-loop-again Inv-loop μ-loop
-loop-again c = 
+loop-again c =
     let k = c .before .before .before .before .before .loop .k in
     let next : 8 * (k + 1) ≡ 8 * k + 8 = omega arith in
     (omega arith, rw next (c .before .before .add-byte .ensures))
@@ -44,27 +44,27 @@ sub-add-byte : tie.Need-sub-add-byte Inv-loop μ-loop
 sub-add-byte c = search needs
 
 add-byte-requires-2 : tie.Need-add-byte-requires-2 Inv-loop μ-loop
-add-byte-requires-2 c κs = 
+add-byte-requires-2 c κs =
     let at = c .before .before .before in
     (record { row = at .before .before .before .pre .0; some = omega arith; most = omega arith; within = omega arith }, at .loop .inv .1)
 
 same-length : tie.Need-same-length Inv-loop μ-loop
-same-length c = 
+same-length c =
     let from = c .before .before .before .before .before .before .before .before .before in
     c .before .before .add-byte2 .ensures .likesSized ∙ sym (from .pre .1 .likesSized)
 
 returns : tie.Need-returns Inv-loop μ-loop
-returns c = 
+returns c =
     let from = c .before .before .before .before .before .before .before .before .before in
     marked-row (c .before .before .add-byte2 .ensures) (omega (arith, from .pre .0 .chores))
 
 same-length-2 : tie.Need-same-length-2 Inv-loop μ-loop
-same-length-2 c = 
+same-length-2 c =
     let from = c .before .before .before .before .before in
     c .before .before .loop .inv .1 .likesSized ∙ sym (from .pre .1 .likesSized)
 
 returns-2 : tie.Need-returns-2 Inv-loop μ-loop
-returns-2 c = 
+returns-2 c =
     let from = c .before .before .before .before .before in
     marked-row (c .before .before .loop .inv .1) (omega (arith, from .pre .0 .chores))
 

@@ -20,13 +20,13 @@ clear-requires : tie.Need-clear-requires Inv-loop μ-loop
 clear-requires c κs = search needs
 
 loop-holds : tie.Need-loop-holds Inv-loop μ-loop
-loop-holds c = 
+loop-holds c =
     let from = c .before .before .before .before .before .before in
     let clear : length (from .args .likes .now) ≡ choresOf (from .args .sheet .now) = from .pre .1 ∙ from .pre .0 .chores in
     (omega arith, marked-none (c .before .before .clear .ensures ∙ ap (λ k. replicate k 0) clear))
 
 add-row-requires : tie.Need-add-row-requires Inv-loop μ-loop
-add-row-requires c κs = 
+add-row-requires c κs =
     let at = c .before .before in
     let on = at .before .before .before .before .before .before .before .pre .0 in
     (record { valid = on .valid; chores = on .chores; agent = omega (arith, on .agents) }, at .loop .inv .1)
@@ -41,12 +41,12 @@ loop-again : tie.Need-loop-again Inv-loop μ-loop
 loop-again c = (omega arith, c .before .before .add-row .ensures)
 
 same-length : tie.Need-same-length Inv-loop μ-loop
-same-length c = 
+same-length c =
     let from = c .before .before .before .before .before .before .before .before in
     c .before .loop .inv .1 .likesSized ∙ sym (from .pre .1 ∙ from .pre .0 .chores)
 
 returns : tie.Need-returns Inv-loop μ-loop
-returns c = 
+returns c =
     let loop = c .before .loop in
     let all : loop .i ≡ c .before .before .before .before .before .before .before .before .args .n = omega arith in
     rw all at (loop .inv .1)

@@ -73,8 +73,8 @@ opens-with-requires c κs = search needs
 
 -- the word of the chore at work holds the agents who find it easy
 easy-is :
-  (c : tie.After-opens-with Inv-loop μ-loop)
-  → SetOf (agentsOf (start (begun c) .args .sheet .now)) (bitOr (getD (turn c .before .loop .likes) (turn c .before .loop .c) 0) (read (begun c) .before .all-difficult-rows .result)) (λ i. asRead (start (begun c) .args .sheet .now) .easy i (turn c .before .loop .c))
+    (c : tie.After-opens-with Inv-loop μ-loop)
+    → SetOf (agentsOf (start (begun c) .args .sheet .now)) (bitOr (getD (turn c .before .loop .likes) (turn c .before .loop .c) 0) (read (begun c) .before .all-difficult-rows .result)) (λ i. asRead (start (begun c) .args .sheet .now) .easy i (turn c .before .loop .c))
 easy-is c =
     let on = start (begun c) .pre .on in
     easy-next (turn c .before .loop .inv .1) (omega (arith, on .chores)) (on .agents) (read (begun c) .before .all-difficult-rows .ensures)
