@@ -23,13 +23,12 @@ pub fn with(w: u32, i: usize) -> u32
     w | (1u32 << i)
 }
 
-// The set with agent i, unless its mark is 1, difficult. Marks are as good as random, so that a test of each would often be guessed wrong.
+// The set with agent i, unless its mark is 1, difficult. The compiler makes this a choice without a branch, and of several in a row one of four.
 pub fn with_easy(w: u32, i: usize, mark: u8) -> u32
     requires { ⌜ i < 32 ⌝ }
-    requires { ⌜ mark < 2 ⌝ }
     ensures { λ r. ⌜ r ≡ cond (eqb mark 1) w (bitOr w (2 ^ i)) ⌝ }
 {
-    w | ((1 - mark as u32) << i)
+    if mark == 1 { w } else { with(w, i) }
 }
 
 // The lowest agent of the set, n where it is empty.

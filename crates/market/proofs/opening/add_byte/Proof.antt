@@ -3,8 +3,6 @@ use Prim.Native.Nat.{ℕ, _+_, _-_, _*_, _≤_, _<_}
 use mathlib.Core.Path.{_≡_, sym, _∙_}
 use native.Mathlib.Omega.{arith}
 use borrow.Author.Needs.{needs}
-use Rattle.finite.specs.Bits.{bit}
-use Rattle.finite.proofs.Packed.{digit-below}
 use Rattle.model.specs.Sheet.{choresOf}
 use Rattle.market.specs.Opened.{Marked}
 use Rattle.market.proofs.Marking.{mark-in-byte, marked-next}
@@ -51,10 +49,8 @@ mark-in-requires c κs = search needs
 
 with-easy-requires : tie.Need-with-easy-requires Inv-loop μ-loop
 with-easy-requires c κs =
-    let turn = c .before .before in
-    let row = start turn .pre .0 .row in
-    let hard = bit (turn .before .before .row-byte .result) (7 - turn .before .loop .j) in
-    (omega (arith, row .agent, row .valid .agentsFit), rw (c .mark-in .ensures) (digit-below hard))
+    let row = start (c .before .before) .pre .0 .row in
+    omega (arith, row .agent, row .valid .agentsFit)
 
 mul-likes : tie.Need-mul-likes Inv-loop μ-loop
 mul-likes c = search needs

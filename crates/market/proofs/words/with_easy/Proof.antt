@@ -1,29 +1,19 @@
--- `market::words::with_easy` meets its contract: what is shifted is 0 or 1.
-use Prim.Native.Nat.{_*_, _%_, _^_}
-use mathlib.Core.Path.{_≡_, refl, ap, _∙_}
-use native.Mathlib.Nat.{zero-mul}
-use native.Mathlib.Omega.{arith}
-use lib.Bits.{bitOr, or-zero-r}
+-- `market::words::with_easy` meets its contract.
+use mathlib.Core.Path.{sym, _∙_}
 use borrow.Author.Needs.{needs}
-use Rattle.finite.proofs.Below.{by-top}
-use Rattle.finite.proofs.Bits.{shift-one}
+use borrow.Author.Tests.{eq-eqb, ne-eqb}
+use Rattle.finite.proofs.Tests.{cond-true, cond-false}
 use Rattle.market.proofs.words.with_easy.Statement.{statement}
 use Rattle.market.proofs.words.with_easy.Tie as tie
 
-sub-result : tie.Need-sub-result
-sub-result c = search needs
-
-cast-result : tie.Need-cast-result
-cast-result c = search needs
-
-shl-result : tie.Need-shl-result
-shl-result c = search needs
+with-requires : tie.Need-with-requires
+with-requires c κs = search needs
 
 returns : tie.Need-returns
-returns c =
-    by-top (c .pre .1)
-    (λ e. let none : 0 * 2 ^ c .args .i % 2 ^ 32 ≡ 0 = rw (zero-mul (2 ^ c .args .i)) refl in rw e (ap (bitOr (c .args .w)) none ∙ or-zero-r (c .args .w)))
-    (λ l. let e : c .args .mark ≡ 0 = omega arith in rw e (ap (bitOr (c .args .w)) (shift-one (c .pre .0))))
+returns c = sym (cond-true _ _ (eq-eqb _ 1 (c .if1 .taken)))
+
+returns-2 : tie.Need-returns-2
+returns-2 c = c .with .ensures ∙ sym (cond-false _ _ (ne-eqb _ 1 (c .before .if1 .left)))
 
 pub with-easy-spec : {M : Type 1} → statement M
-with-easy-spec = tie.close (tie.spec sub-result cast-result shl-result returns)
+with-easy-spec = tie.close (tie.spec with-requires returns returns-2)
