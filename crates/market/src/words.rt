@@ -23,7 +23,7 @@ pub fn with(w: u32, i: usize) -> u32
     w | (1u32 << i)
 }
 
-// The set with agent i, unless its mark is 1, difficult. The compiler makes this a choice without a branch, and of several in a row one of four.
+// The set with agent i, unless its mark is 1, difficult. The compiler makes it a choice without a branch, for four chores at once.
 pub fn with_easy(w: u32, i: usize, mark: u8) -> u32
     requires { ⌜ i < 32 ⌝ }
     ensures { λ r. ⌜ r ≡ cond (eqb mark 1) w (bitOr w (2 ^ i)) ⌝ }
