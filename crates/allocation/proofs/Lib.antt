@@ -1,4 +1,5 @@
 pub mod Running
+pub mod Counting
 pub mod Sharing
 pub mod Accepting
 pub mod Final

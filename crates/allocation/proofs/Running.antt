@@ -1,17 +1,19 @@
 -- The loop's invariant: where the run is, that it goes on from there, and that its counters fit.
 -- Assumes nothing.
 use Prim.Native.Nat.{ℕ, suc, _≤_, _<_}
+use mathlib.Core.Bool.{true, false}
 use mathlib.Core.List.{List, [], _++_, append-nil}
 use mathlib.Core.Path.{_≡_, refl, ap, subst, _∙_}
 use native.Mathlib.Omega.{arith}
 use lib.ListN.{length}
+use Rattle.finite.proofs.Tests.{clash, by-test}
 use Rattle.model.specs.Limits.{maxAgents}
 use Rattle.model.specs.Sheet.{agentsOf, choresOf, asRead}
 use Rattle.model.specs.MostMoves.{mostMoves, mostEver}
-use Rattle.model.specs.Algorithm.{State, hand, busy, done, action, step, next, after, Ends}
+use Rattle.model.specs.Algorithm.{State, busy, next, after, Ends}
 use Rattle.model.specs.Record.{handsOver, nextMoves, movesIn}
 use Rattle.model.proofs.MostMoves.{most-at-limits}
-use Rattle.records.specs.Noted.{moveOf, Numbers, Noted, Holding}
+use Rattle.records.specs.Noted.{Numbers, Holding}
 use Rattle.records.proofs.Holding.{noted-on}
 use Rattle.sheet.specs.Valid.{Valid}
 use Rattle.algorithm.specs.Reached.{stepNumber, Shaped, Reached}
@@ -22,9 +24,11 @@ use Rattle.algorithm.proofs.Machine.{fewer-cuts, moves-bound, hand-known}
 use Rattle.algorithm.proofs.Begin.{opening-reached}
 use Rattle.algorithm.proofs.Ending.{reached, step-falls, done-reached}
 use Rattle.algorithm.proofs.RunMoves.{leads}
+use Rattle.steps.specs.declared.Stand.{Stand}
 use Rattle.steps.specs.declared.Turn.{Turn}
-use Rattle.steps.specs.Turns.{stateOf, named, actionOf, Ready, Tabled, Turning, Turned}
-use Rattle.allocation.specs.Runs.{Running, Kit, RunEnds}
+use Rattle.steps.specs.declared.Turn.the-variants.{Moved, Passed, Cut, Ended}
+use Rattle.steps.specs.Turns.{stateOf, named, actionOf, isCut, Ready, Tabled, Turning, Turned}
+use Rattle.allocation.specs.Runs.{Running, Kit, RunEnds, Sees, Begun, isEnd, movesAfter, cutsAfter, stageAfter, Told, Counting, Counted}
 use Rattle.steps.proofs.Ready.{reached-ready}
 
 -- the most moves of a share-out, in numbers
@@ -44,72 +48,134 @@ module _ {s : List ℕ} (v : Valid s) {owners prices groups entitled lent bytes 
   pub turning : {likes first sets : List ℕ} → Kit s likes → Tabled s owners prices groups entitled likes first sets → Turning s owners prices groups entitled likes first sets cuts stage
   turning k t = record { ready = ready k; moves = moves; reached = state-reached; tabled = t }
 
-  pub moves-fit : moves ≤ mostEver
+  pub groups-sized : length groups ≡ agentsOf s
+  unfolding asRead
+  groups-sized = state-reached .shaped .groups
+
+  moves-fit : moves ≤ mostEver
   unfolding asRead
   moves-fit = omega (arith, moves-bound state-reached, most-moves v)
 
-  pub cuts-fit : cuts < maxAgents
+  cuts-fit : cuts < maxAgents
   unfolding asRead
   cuts-fit = omega (arith, fewer-cuts state-reached, v .agentsFit)
 
   -- the moves so far are as many as the counter says
-  counted : length (movesIn (asRead s) (R .count)) ≡ moves
+  made : length (movesIn (asRead s) (R .count)) ≡ moves
   unfolding stateIn
-  counted =
+  made =
       subst (λ o. length (movesIn (asRead s) (R .count)) ≡ stateIn o .moves) (R .comes) (leads (read-sound v) (R .count) .count)
 
-  -- a turn that answered r
-  module _ {likes owners′ prices′ groups′ entitled′ first′ sets′ : List ℕ} {answer r : Turn} (T : Turned s owners prices groups entitled likes cuts stage answer owners′ prices′ groups′ entitled′ first′ sets′) (e : answer ≡ r) where
-    acts : action (asRead s) st ≡ actionOf r
-    acts = T .acts moves ∙ ap actionOf e
+-- where it starts
+pub begins : {s owners prices groups entitled lent bytes : List ℕ} {at : Stand} → Begun s groups at → Running s owners prices groups entitled lent bytes 0 0 0 → Running s owners prices groups entitled lent bytes (at .moves) (at .cuts) (at .stage)
+begins B R = rw (B .moves, B .cuts, B .stage) R
 
-    steps : step (asRead s) st ≡ named r owners′ prices′ groups′ entitled′ moves cuts stage
-    steps = T .steps moves ∙ ap (λ r. named r owners′ prices′ groups′ entitled′ moves cuts stage) e
+-- only one kind of turn stops the run
+end-only : (answer : Turn) → isEnd answer ≡ true → answer ≡ Ended
+unfolding isEnd
+end-only (Moved c w u) q = absurd (clash q refl)
+end-only Passed q = absurd (clash q refl)
+end-only Cut q = absurd (clash q refl)
+end-only Ended q = refl
 
-    comes-next : after (asRead s) (suc (R .count)) ≡ named r owners′ prices′ groups′ entitled′ moves cuts stage
+-- any other is counted as the step says
+counts-on :
+    {s groups bytes bytes′ : List ℕ} {at at′ : Stand} (answer : Turn) → isEnd answer ≡ false → Counted s groups answer at at′ bytes bytes′
+    → (owners prices entitled : List ℕ)
+    → named answer owners prices groups entitled (at .moves) (at .cuts) (at .stage) ≡ busy (stateOf owners prices groups entitled (at′ .moves) (at′ .cuts) (at′ .stage))
+unfolding isEnd movesAfter cutsAfter stageAfter
+counts-on (Moved c w u) h C owners prices entitled = rw (C .moves, C .cuts, C .stage)
+counts-on Passed h C owners prices entitled = rw (C .moves, C .cuts, C .stage)
+counts-on Cut h C owners prices entitled = rw (C .moves, C .cuts, C .stage)
+counts-on Ended h C owners prices entitled = absurd (clash refl h)
+
+-- where the run stands
+module _ {s : List ℕ} (v : Valid s) {owners prices groups entitled lent bytes : List ℕ} (at : Stand) (R : Running s owners prices groups entitled lent bytes (at .moves) (at .cuts) (at .stage)) where
+  abbrev here : State
+  here = stateOf owners prices groups entitled (at .moves) (at .cuts) (at .stage)
+
+  abbrev Next : Turn → Type 0
+  Next answer = movesIn (asRead s) (suc (R .count)) ≡ movesIn (asRead s) (R .count) ++ handsOver here (actionOf answer)
+
+  -- what hands nothing over leaves the record alone
+  notes-none : {bytes′ : List ℕ} (answer : Turn) → Next answer → handsOver here (actionOf answer) ≡ [] → bytes′ ≡ bytes → Holding (movesIn (asRead s) (suc (R .count))) lent bytes′
+  notes-none answer next q e = rw (e, next, q, append-nil (movesIn (asRead s) (R .count))) (R .noted)
+
+  tells-on : {bytes′ : List ℕ} (answer : Turn) → Next answer → Told answer at bytes bytes′ → Holding (movesIn (asRead s) (suc (R .count))) lent bytes′
+  unfolding handsOver Told
+  tells-on (Moved c w u) next N = rw next (noted-on (R .noted) (made v R) N)
+  tells-on Passed next e = notes-none Passed next refl e
+  tells-on Cut next e = notes-none Cut next refl e
+  tells-on Ended next e = notes-none Ended next refl e
+
+  -- a turn
+  module _ {likes owners′ prices′ groups′ entitled′ first′ sets′ : List ℕ} {answer : Turn} (T : Turned s owners prices groups entitled likes (at .cuts) (at .stage) answer owners′ prices′ groups′ entitled′ first′ sets′) where
+    comes-next : {r : Turn} → answer ≡ r → after (asRead s) (suc (R .count)) ≡ named r owners′ prices′ groups′ entitled′ (at .moves) (at .cuts) (at .stage)
     unfolding after next
-    comes-next = ap (next (asRead s)) (R .comes) ∙ steps
+    comes-next e =
+        ap (next (asRead s)) (R .comes) ∙ (T .steps (at .moves) ∙ ap (λ r. named r owners′ prices′ groups′ entitled′ (at .moves) (at .cuts) (at .stage)) e)
 
     -- what it handed over comes after the moves so far
-    moves-next : movesIn (asRead s) (suc (R .count)) ≡ movesIn (asRead s) (R .count) ++ handsOver st (actionOf r)
+    moves-next : Next answer
     unfolding movesIn nextMoves
     moves-next =
         ap (λ o. movesIn (asRead s) (R .count) ++ nextMoves (asRead s) o) (R .comes)
-        ∙ ap (λ a. movesIn (asRead s) (R .count) ++ handsOver st a) acts
+        ∙ ap (λ a. movesIn (asRead s) (R .count) ++ handsOver here a) (T .acts (at .moves))
 
-    pub falls : {t : State} → named r owners′ prices′ groups′ entitled′ moves cuts stage ≡ busy t → stepNumber (asRead s) t < stepNumber (asRead s) st
-    falls q = step-falls (read-sound v) state-reached (steps ∙ q)
+    -- a move's numbers fit the record
+    numbers : (c w u : ℕ) → answer ≡ Moved c w u → Numbers c w u (at .cuts)
+    unfolding asRead
+    numbers c w u e =
+        let h = hand-known (state-reached v R) (read-sound v) (T .acts (at .moves) ∙ ap actionOf e) in
+        record {
+          ofChore = omega (arith, h .chore, v .choresFit);
+          ofGiver = omega (arith, h .giver, v .agentsFit);
+          ofReceiver = omega (arith, h .receiver, v .agentsFit);
+          ofRound = cuts-fit v R;
+        }
 
     -- 2b passes nothing on
-    pub passes-down : {stage′ : ℕ} → named r owners′ prices′ groups′ entitled′ moves cuts stage ≡ busy (stateOf owners′ prices′ groups′ entitled′ moves cuts stage′) → 0 < stage
-    passes-down q = passing (asRead s) st (steps ∙ q) refl refl
+    stage-left : answer ≡ Passed → 0 < at .stage
+    stage-left e =
+        passing (asRead s) here (T .steps (at .moves) ∙ ap (λ r. named r owners′ prices′ groups′ entitled′ (at .moves) (at .cuts) (at .stage)) e) refl refl
 
-    -- a move's numbers fit the record, and it is noted there
-    module _ {c w u : ℕ} (q : actionOf r ≡ hand c w u) where
-      pub numbers : Numbers c w u cuts
-      unfolding asRead
-      numbers =
-          let h = hand-known state-reached (read-sound v) (acts ∙ q) in
-          record {
-            ofChore = omega (arith, h .chore, v .choresFit);
-            ofGiver = omega (arith, h .giver, v .agentsFit);
-            ofReceiver = omega (arith, h .receiver, v .agentsFit);
-            ofRound = cuts-fit;
-          }
+    pub counting : length groups′ ≡ length groups → Counting s groups′ answer at
+    counting e =
+        record {
+          valid = v;
+          groupsSized = e ∙ groups-sized v R;
+          movesFit = moves-fit v R;
+          cutsFit = cuts-fit v R;
+          numbers = numbers;
+          stageLeft = stage-left;
+        }
 
-      pub notes : {bytes′ : List ℕ} → Noted moves (moveOf c w u cuts stage) bytes bytes′ → Holding (movesIn (asRead s) (suc (R .count))) lent bytes′
-      unfolding handsOver
-      notes N = rw (moves-next, q) (noted-on (R .noted) counted N)
+    pub ends-here : isEnd answer ≡ true → RunEnds s owners′ prices′ groups′ entitled′ lent bytes (at .moves) (at .cuts)
+    unfolding Told
+    ends-here q =
+        let e = end-only answer q in
+        record {
+          stage = at .stage;
+          ends = record { steps = suc (R .count); ends = comes-next e };
+          noted = tells-on Ended (rw e at moves-next) refl;
+        }
 
-    -- what hands nothing over leaves the record alone
-    pub notes-none : handsOver st (actionOf r) ≡ [] → Holding (movesIn (asRead s) (suc (R .count))) lent bytes
-    notes-none q = rw (moves-next, q, append-nil (movesIn (asRead s) (R .count))) (R .noted)
+    -- and counted
+    module _ {at′ : Stand} {bytes′ : List ℕ} (C : Counted s groups′ answer at at′ bytes bytes′) where
+      pub sees-on : Sees s groups (at .view) → Sees s groups′ (at′ .view)
+      sees-on seen = by-test (isCut answer) (C .looked) (λ e. rw (T .kept e, C .kept e) seen)
 
-    pub runs-on : {bytes′ : List ℕ} {moves′ cuts′ stage′ : ℕ} → named r owners′ prices′ groups′ entitled′ moves cuts stage ≡ busy (stateOf owners′ prices′ groups′ entitled′ moves′ cuts′ stage′) → Holding (movesIn (asRead s) (suc (R .count))) lent bytes′ → Running s owners′ prices′ groups′ entitled′ lent bytes′ moves′ cuts′ stage′
-    runs-on q H = record { count = suc (R .count); comes = comes-next ∙ q; noted = H }
+      module _ (h : isEnd answer ≡ false) where
+        pub runs-on : Running s owners′ prices′ groups′ entitled′ lent bytes′ (at′ .moves) (at′ .cuts) (at′ .stage)
+        runs-on =
+            record {
+              count = suc (R .count);
+              comes = comes-next refl ∙ counts-on answer h C owners′ prices′ entitled′;
+              noted = tells-on answer moves-next (C .told);
+            }
 
-    pub ends-here : {bytes′ : List ℕ} {moves′ cuts′ stage′ : ℕ} → named r owners′ prices′ groups′ entitled′ moves cuts stage ≡ done (stateOf owners′ prices′ groups′ entitled′ moves′ cuts′ stage′) → Holding (movesIn (asRead s) (suc (R .count))) lent bytes′ → RunEnds s owners′ prices′ groups′ entitled′ lent bytes′ moves′ cuts′
-    ends-here q H = record { stage = _; ends = record { steps = suc (R .count); ends = comes-next ∙ q }; noted = H }
+        pub falls : stepNumber (asRead s) (stateOf owners′ prices′ groups′ entitled′ (at′ .moves) (at′ .cuts) (at′ .stage)) < stepNumber (asRead s) here
+        falls = step-falls (read-sound v) (state-reached v R) (T .steps (at .moves) ∙ counts-on answer h C owners′ prices′ entitled′)
 
 -- the lists in which a run ends have their lengths
 pub ended-shaped : {s : List ℕ} {x : State} → Valid s → Ends (asRead s) x → Shaped (asRead s) x

@@ -10,10 +10,10 @@ ghost use Rattle.allocation.specs.Shared.{few, Sharing, Working, Long, S
 
 mod run;
 
-use crate::run::Counts;
 use crate::run::run;
 use market::opening::open;
 use sheet::or_else;
+use steps::Stand;
 use totals::clear;
 
 // Each working list is made in a function of its own, so that its entries are one value where it is used.
@@ -60,7 +60,7 @@ fn share_with(
     likes: &mut [u32],
     scratch: &mut [u8],
     record: &mut [u8],
-) -> Counts
+) -> Stand
     requires { ⌜ Sharing (now sheet) (now owners) (now prices) × Working (now sheet) (now groups) (now entitled) (now likes) ⌝ }
     requires { ⌜ length (now scratch) ≡ scratchSize ⌝ }
     ensures { λ r. ⌜ Shared (now (sheet .entry)) (now (owners .exit)) (now (prices .exit)) (now («record» .entry)) (now («record» .exit)) (r .moves) (r .cuts) ⌝ }
@@ -89,7 +89,7 @@ fn share_in(
     likes: &mut [u32],
     scratch: &mut [u8],
     record: &mut [u8],
-) -> Counts
+) -> Stand
     requires { ⌜ Sharing (now sheet) (now owners) (now prices) × Long (now sheet) (now entitled) (now likes) ⌝ }
     requires { ⌜ length (now scratch) ≡ scratchSize ⌝ }
     ensures { λ r. ⌜ Shared (now (sheet .entry)) (now (owners .exit)) (now (prices .exit)) (now («record» .entry)) (now («record» .exit)) (r .moves) (r .cuts) ⌝ }
@@ -115,7 +115,7 @@ fn share_few(
     prices: &mut [u32],
     scratch: &mut [u8],
     record: &mut [u8],
-) -> Counts
+) -> Stand
     requires { ⌜ Sharing (now sheet) (now owners) (now prices) ⌝ }
     requires { ⌜ choresOf (now sheet) ≤ few ⌝ }
     requires { ⌜ length (now scratch) ≡ scratchSize ⌝ }
@@ -140,7 +140,7 @@ fn share_many(
     prices: &mut [u32],
     scratch: &mut [u8],
     record: &mut [u8],
-) -> Counts
+) -> Stand
     requires { ⌜ Sharing (now sheet) (now owners) (now prices) ⌝ }
     requires { ⌜ length (now scratch) ≡ scratchSize ⌝ }
     ensures { λ r. ⌜ Shared (now (sheet .entry)) (now (owners .exit)) (now (prices .exit)) (now («record» .entry)) (now («record» .exit)) (r .moves) (r .cuts) ⌝ }
@@ -166,7 +166,7 @@ pub fn share(
     prices: &mut [u32],
     scratch: &mut [u8],
     record: &mut [u8],
-) -> Counts
+) -> Stand
     requires { ⌜ Sharing (now sheet) (now owners) (now prices) ⌝ }
     requires { ⌜ length (now scratch) ≡ scratchSize ⌝ }
     ensures { λ r. ⌜ Shared (now (sheet .entry)) (now (owners .exit)) (now (prices .exit)) (now («record» .entry)) (now («record» .exit)) (r .moves) (r .cuts) ⌝ }

@@ -3,70 +3,70 @@ ghost use Prim.Native.Nat.{_*_};
 ghost use mathlib.Core.Path.{_≡_};
 ghost use lib.ListN.{length};
 ghost use Rattle.model.specs.Limits.{maxAgents, scratchSize};
+ghost use Rattle.model.specs.Sheet.{agentsOf};
+ghost use Rattle.sheet.specs.Valid.{Valid};
 ghost use Rattle.firsts.specs.Traits.{traitCount};
-ghost use Rattle.steps.specs.Turns.{Tabled, Turning, Turned};
-ghost use Rattle.allocation.specs.Runs.{Running, Kit, RunEnds};
+ghost use Rattle.steps.specs.Turns.{Tabled};
+ghost use Rattle.allocation.specs.Runs.{Running, Kit, RunEnds, isEnd, Begun, Counting, Counted};
 use firsts::traits::TRAITS;
 use records::note;
+use steps::Stand;
 use steps::Turn;
 use steps::fill_table;
-use steps::step_2a;
-use steps::step_2b;
+use steps::step;
+use steps::view_of;
 
-// The counters of a run, and where it stands: stage 0 is 2b, any other is the group at work in 2a.
-pub struct Counts {
-    pub moves: u64,
-    pub cuts: u8,
-    pub stage: u8,
-}
-
-// The step that is due.
-fn take_turn(
-    sheet: &[u8],
-    owners: &mut [u8],
-    prices: &mut [u32],
-    groups: &mut [u8],
-    entitled: &mut [u8],
-    likes: &[u32],
-    first: &mut [u16],
-    sets: &mut [u64],
-    scratch: &mut [u8],
-    at: Counts,
-) -> Turn
-    requires { ⌜ Turning (now sheet) (now owners) (now prices) (now groups) (now entitled) (now likes) (now first) (now sets) (at .cuts) (at .stage) ⌝ }
-    requires { ⌜ length (now scratch) ≡ scratchSize ⌝ }
-    ensures { λ r. ⌜ Turned (now (sheet .entry)) (now (owners .entry)) (now (prices .entry)) (now (groups .entry)) (now (entitled .entry)) (now (likes .entry)) (at .cuts) (at .stage)
-        r (now (owners .exit)) (now (prices .exit)) (now (groups .exit)) (now (entitled .exit)) (now (first .exit)) (now (sets .exit)) ⌝ }
+// Where a run starts: in 2b, before its first move.
+fn begin(sheet: &[u8], groups: &[u8]) -> Stand
+    requires { ⌜ Valid (now sheet) × (length (now groups) ≡ agentsOf (now sheet)) ⌝ }
+    ensures { λ r. ⌜ Begun (now (sheet .entry)) (now (groups .entry)) r ⌝ }
 {
-    if at.stage == 0 {
-        return step_2b(
-            sheet,
-            owners,
-            prices,
-            groups,
-            entitled,
-            likes,
-            first,
-            sets,
-            at.cuts,
-            scratch,
-        );
+    Stand {
+        moves: 0,
+        cuts: 0,
+        stage: 0,
+        view: view_of(sheet, groups),
     }
-    step_2a(
-        sheet,
-        owners,
-        prices,
-        groups,
-        entitled,
-        likes,
-        first,
-        sets,
-        at.cuts,
-        at.stage,
-    )
 }
 
-// From the opening to the stop in 2b. A cut starts 2a at the group before the new one. Moves that the record has no room for are counted only.
+// The run stops with this turn.
+fn ended(turn: Turn) -> bool
+    ensures { λ r. ⌜ r ≡ isEnd turn ⌝ }
+{
+    match turn {
+        Turn::Moved { .. } => false,
+        Turn::Passed => false,
+        Turn::Cut => false,
+        Turn::Ended => true,
+    }
+}
+
+// Where the run stands after a turn. A cut starts 2a at the group before the new one. Moves that the record has no room for are counted only.
+fn counted(sheet: &[u8], groups: &[u8], record: &mut [u8], turn: Turn, mut at: Stand) -> Stand
+    requires { ⌜ Counting (now sheet) (now groups) turn at ⌝ }
+    ensures { λ r. ⌜ Counted (now (sheet .entry)) (now (groups .entry)) turn at r (now («record» .entry)) (now («record» .exit)) ⌝ }
+{
+    match turn {
+        Turn::Moved {
+            chore,
+            giver,
+            receiver,
+        } => {
+            note(record, at.moves, chore, giver, receiver, at.cuts, at.stage);
+            at.moves += 1;
+        }
+        Turn::Passed => at.stage -= 1,
+        Turn::Cut => {
+            at.stage = at.cuts;
+            at.cuts += 1;
+            at.view = view_of(sheet, groups);
+        }
+        Turn::Ended => {}
+    }
+    at
+}
+
+// From the opening to the stop in 2b.
 fn take_turns(
     sheet: &[u8],
     owners: &mut [u8],
@@ -78,18 +78,14 @@ fn take_turns(
     sets: &mut [u64],
     scratch: &mut [u8],
     record: &mut [u8],
-) -> Counts
+) -> Stand
     requires { ⌜ Kit (now sheet) (now likes) × Running (now sheet) (now owners) (now prices) (now groups) (now entitled) (now «record») (now «record») 0 0 0 ⌝ }
     requires { ⌜ Tabled (now sheet) (now owners) (now prices) (now groups) (now entitled) (now likes) (now first) (now sets) × (length (now scratch) ≡ scratchSize) ⌝ }
     ensures { λ r. ⌜ RunEnds (now (sheet .entry)) (now (owners .exit)) (now (prices .exit)) (now (groups .exit)) (now (entitled .exit)) (now («record» .entry)) (now («record» .exit)) (r .moves) (r .cuts) ⌝ }
 {
-    let mut at = Counts {
-        moves: 0,
-        cuts: 0,
-        stage: 0,
-    };
+    let mut at = begin(sheet, groups);
     loop {
-        let turn = take_turn(
+        let turn = step(
             sheet,
             owners,
             prices,
@@ -101,22 +97,10 @@ fn take_turns(
             scratch,
             at,
         );
-        match turn {
-            Turn::Moved {
-                chore,
-                giver,
-                receiver,
-            } => {
-                note(record, at.moves, chore, giver, receiver, at.cuts, at.stage);
-                at.moves += 1;
-            }
-            Turn::Passed => at.stage -= 1,
-            Turn::Cut => {
-                at.stage = at.cuts;
-                at.cuts += 1;
-            }
-            Turn::Ended => return at,
+        if ended(turn) {
+            return at;
         }
+        at = counted(sheet, groups, record, turn, at);
     }
 }
 
@@ -143,7 +127,7 @@ pub fn run(
     likes: &[u32],
     scratch: &mut [u8],
     record: &mut [u8],
-) -> Counts
+) -> Stand
     requires { ⌜ Kit (now sheet) (now likes) × Running (now sheet) (now owners) (now prices) (now groups) (now entitled) (now «record») (now «record») 0 0 0 ⌝ }
     requires { ⌜ length (now scratch) ≡ scratchSize ⌝ }
     ensures { λ r. ⌜ RunEnds (now (sheet .entry)) (now (owners .exit)) (now (prices .exit)) (now (groups .exit)) (now (entitled .exit)) (now («record» .entry)) (now («record» .exit)) (r .moves) (r .cuts) ⌝ }
