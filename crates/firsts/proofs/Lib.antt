@@ -7,3 +7,4 @@ pub mod Losing
 pub mod Handing
 pub mod Placing
 pub mod DearestIn
+pub mod ByArithmetic

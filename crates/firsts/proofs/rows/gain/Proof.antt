@@ -37,9 +37,6 @@ room c = omega (arith, turn c .below, agent c, c .before .before .before .before
 cast-t : tie.Need-cast-t Inv-loop μ-loop
 cast-t c = omega (arith, turn c .below)
 
-cast-earlier : tie.Need-cast-earlier Inv-loop μ-loop
-cast-earlier c = omega (arith, c .before .before .before .before .pre .1)
-
 mul-earlier : tie.Need-mul-earlier Inv-loop μ-loop
 mul-earlier c = omega (arith, agent c)
 
@@ -53,7 +50,7 @@ slice-read-earlier : tie.Need-slice-read-earlier Inv-loop μ-loop
 slice-read-earlier c = omega (arith, room (c .before), c .before .before .loop .inv .1 .size)
 
 earlier-requires : tie.Need-earlier-requires Inv-loop μ-loop
-earlier-requires c κs = tt
+earlier-requires c κs = c .before .before .before .before .before .pre .1
 
 mul-first : tie.Need-mul-first Inv-loop μ-loop
 mul-first c = omega (arith, agent (c .before .before))
@@ -115,7 +112,6 @@ gain-spec =
     μ-loop
     loop-holds
     cast-t
-    cast-earlier
     mul-earlier
     add-earlier
     mul-earlier-2

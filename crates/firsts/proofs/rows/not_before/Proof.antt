@@ -1,17 +1,16 @@
 -- `firsts::rows::not_before` meets its contract. The loop's invariant: of the traits that are no longer in the rest, those found.
 use Prim.Native.Nat.{_+_, _*_}
 use mathlib.Core.Bool.{_&&_}
-use mathlib.Core.Path.{_≡_}
-use mathlib.Core.Logic.{⊎-elim}
+use mathlib.Core.Path.{_≡_, refl}
 use native.Mathlib.Omega.{arith}
 use lib.Count.{trailingZeros}
 use lib.Dec.{leb}
 use lib.ListN.{getD}
 use lib.Pow.{pow-pos}
-use borrow.Author.Tests.{le-leb, lt-leb}
 use Rattle.finite.specs.Bits.{SetOf}
-use Rattle.finite.proofs.LowestBit.{Rest, Lowest, lowest, passed, rest-all, rest-next, kept-none, kept-take, kept-skip, kept-all}
+use Rattle.finite.proofs.LowestBit.{Rest, Lowest, lowest, passed, rest-all, rest-next, kept-none, kept-all}
 use Rattle.firsts.specs.Traits.{traitCount}
+use Rattle.firsts.proofs.ByArithmetic.{kept-by}
 use Rattle.firsts.proofs.rows.not_before.Statement.{statement}
 use Rattle.firsts.proofs.rows.not_before.Tie as tie
 
@@ -25,27 +24,31 @@ abbrev μ-loop : tie.MeasureT-loop
 loop-holds : tie.Need-loop-holds Inv-loop μ-loop
 loop-holds c = (rest-all _, kept-none _ _ _)
 
+-- from a turn back to the start
+abbrev start : tie.In-loop Inv-loop μ-loop → tie.Start Inv-loop μ-loop
+start c = c .before .before .before
+
 -- the trait of a turn
 turn : (c : tie.In-loop Inv-loop μ-loop) → Lowest traitCount 64 (c .before .loop .rest) (trailingZeros 64 (c .before .loop .rest))
-turn c = lowest 64 (omega arith) (c .before .before .pre .traits) (c .before .loop .inv .0) (omega arith)
+turn c = lowest 64 (omega arith) (start c .pre .0 .traits) (c .before .loop .inv .0) (omega arith)
 
 cast-t : tie.Need-cast-t Inv-loop μ-loop
 cast-t c = omega (arith, turn c .below)
 
-mul-if1 : tie.Need-mul-if1 Inv-loop μ-loop
-mul-if1 c = omega (arith, c .before .before .pre .agent)
+mul-late : tie.Need-mul-late Inv-loop μ-loop
+mul-late c = omega (arith, start c .pre .0 .agent)
 
-add-if1 : tie.Need-add-if1 Inv-loop μ-loop
-add-if1 c = omega (arith, turn c .below, c .before .before .pre .agent)
+add-late : tie.Need-add-late Inv-loop μ-loop
+add-late c = omega (arith, turn c .below, start c .pre .0 .agent)
 
-mul-if1-2 : tie.Need-mul-if1-2 Inv-loop μ-loop
-mul-if1-2 c = omega (arith, turn c .below, c .before .before .pre .agent)
+mul-late-2 : tie.Need-mul-late-2 Inv-loop μ-loop
+mul-late-2 c = omega (arith, turn c .below, start c .pre .0 .agent)
 
-shared-slice-read-if1 : tie.Need-shared-slice-read-if1 Inv-loop μ-loop
-shared-slice-read-if1 c = let spot = c .before .before .before .pre in omega (arith, turn (c .before) .below, spot .agent, spot .firstSized)
+shared-slice-read-late : tie.Need-shared-slice-read-late Inv-loop μ-loop
+shared-slice-read-late c = let spot = start (c .before) .pre .0 in omega (arith, turn (c .before) .below, spot .agent, spot .firstSized)
 
-cast-if1 : tie.Need-cast-if1 Inv-loop μ-loop
-cast-if1 c = omega (arith, c .shared-slice-known .given (c .before .before .before .args .w * traitCount + trailingZeros 64 (c .before .before .loop .rest)))
+late-requires : tie.Need-late-requires Inv-loop μ-loop
+late-requires c κs = start (c .before) .pre .1
 
 shl-found : tie.Need-shl-found Inv-loop μ-loop
 shl-found c = omega (arith, turn (c .before .before) .below)
@@ -62,13 +65,7 @@ loop-again : tie.Need-loop-again Inv-loop μ-loop
 loop-again c =
     let lowest = turn (c .before .before) in
     let inv = c .before .before .before .loop .inv in
-    rw (lowest .dropped) (
-      rest-next _ (inv .0) (lowest .isSet),
-      ⊎-elim
-          (λ w. rw (w .1, lowest .shifted) (kept-take _ _ (inv .1) (inv .0) (lowest .isSet) (lowest .below) (le-leb _ _ (w .0 .taken))))
-          (λ w. rw (w .1) (kept-skip _ _ (inv .1) (inv .0) (lowest .isSet) (lt-leb _ _ (w .0 .left))))
-          (c .if1 .came),
-    )
+    rw (lowest .dropped) (rest-next _ (inv .0) (lowest .isSet), rw (c .late .ensures) (kept-by _ 64 _ _ (inv .1) (inv .0) (lowest .isSet) (lowest .below) (lowest .shifted) refl))
 
 returns : tie.Need-returns Inv-loop μ-loop
 returns c =
@@ -83,11 +80,11 @@ not-before-spec =
     μ-loop
     loop-holds
     cast-t
-    mul-if1
-    add-if1
-    mul-if1-2
-    shared-slice-read-if1
-    cast-if1
+    mul-late
+    add-late
+    mul-late-2
+    shared-slice-read-late
+    late-requires
     shl-found
     sub-rest
     loop-less

@@ -20,7 +20,7 @@ start c = c .before .before .before .before .before .before .before .before
 not-before-requires : tie.Need-not-before-requires
 not-before-requires c κs =
     let pre = c .before .before .before .before .before .before .before .pre in
-    record { firstSized = pre .0 .1 .firstSized; agent = pre .0 .2; traits = pre .1 .below }
+    (record { firstSized = pre .0 .1 .firstSized; agent = pre .0 .2; traits = pre .1 .below }, omega (arith, pre .0 .0 .chores, pre .0 .3))
 
 search-on-requires : tie.Need-search-on-requires
 search-on-requires c κs =
