@@ -1,5 +1,5 @@
 // The table: filled in one pass over the chores, and kept when a chore is handed on.
-ghost use Prim.Native.Nat.{ℕ, _+_, _*_, _^_, _≤_, _<_};
+ghost use Prim.Native.Nat.{_+_, _*_, _^_, _≤_, _<_};
 ghost use mathlib.Core.Path.{_≡_};
 ghost use lib.ListN.{length, getD};
 ghost use Rattle.finite.specs.Bits.{SetOf};

@@ -1,6 +1,6 @@
 -- Laws for the loops that put the easy marks, row by row, into the words of the chores.
 -- Assumes nothing.
-use Prim.Native.Nat.{ℕ, _+_, _*_, _-_, _≤_, _<_, _^_}
+use Prim.Native.Nat.{ℕ, _+_, _*_, _-_, _<_, _^_}
 use mathlib.Core.Bool.{cond}
 use mathlib.Core.List.{List}
 use mathlib.Core.Path.{_≡_, refl, sym, ap, _∙_}
@@ -10,7 +10,7 @@ use lib.Bits.{bitOr}
 use lib.Dec.{eqb}
 use lib.ListN.{length, getD, set, replicate, length-set, length-replicate, getD-replicate}
 use lib.Seq.{getD-set-same, getD-set-other}
-use Rattle.finite.specs.Bits.{bit, SetOf}
+use Rattle.finite.specs.Bits.{bit}
 use Rattle.finite.proofs.Below.{none-below, by-top}
 use Rattle.finite.proofs.Bits.{set-zero, set-unless}
 use Rattle.finite.proofs.Packed.{digit-is, bit-in-byte}

@@ -1,13 +1,10 @@
 // The choices of step 2a.
 ghost use mathlib.Core.Path.{_≡_};
-ghost use mathlib.Core.Bool.{not, _&&_};
-ghost use Prim.Native.Nat.{ℕ, _≤_, _<_};
+ghost use Prim.Native.Nat.{_≤_};
 ghost use lib.Dec.{eqb, ltb};
 ghost use lib.ListN.{length, getD};
-ghost use Rattle.finite.specs.Search.{chosen, firstBelow};
-ghost use Rattle.model.specs.Instance.{ownerOf};
-ghost use Rattle.model.specs.Fairness.{owns};
-ghost use Rattle.market.specs.Market.{groupOf, entitledOf};
+ghost use Rattle.finite.specs.Search.{chosen};
+ghost use Rattle.market.specs.Market.{groupOf};
 
 // The member of the group of greatest price up to one.
 pub fn greatest_in(groups: &[u8], ups: &[u32], stage: u8) -> usize
@@ -49,21 +46,4 @@ pub fn least_after(groups: &[u8], sums: &[u32], stage: u8) -> usize
         i += 1;
     }
     best
-}
-
-// The first chore of agent w that is not entitled.
-pub fn first_free(owners: &[u8], entitled: &[u8], w: usize) -> usize
-    requires { ⌜ (length (now entitled) ≡ length (now owners)) × ((c : ℕ) → c < length (now owners) → 0 < getD (now owners) c 0) ⌝ }
-    ensures { λ r. ⌜ r ≡ firstBelow (length (now (owners .entry))) (λ c. owns (ownerOf (now (owners .entry))) w c && not (entitledOf (now (entitled .entry)) c)) ⌝ }
-{
-    let mut c = 0;
-    while c < owners.len() {
-        if owners[c] as usize - 1 == w {
-            if entitled[c] != 1 {
-                return c;
-            }
-        }
-        c += 1;
-    }
-    c
 }

@@ -1,7 +1,7 @@
 -- What a turn of the loop has at hand, in the terms of the lists.
 -- Assumes nothing.
 use Prim.Native.Nat.{ℕ, _*_, _≤_, _<_}
-use mathlib.Core.Bool.{Bool, _&&_}
+use mathlib.Core.Bool.{Bool}
 use mathlib.Core.List.{List}
 use mathlib.Core.Path.{_≡_, sym, ap, ap₂, _∙_}
 use native.Mathlib.Nat.{le-refl, le-trans, mul-le-mul}
@@ -17,8 +17,7 @@ use Rattle.model.specs.Limits.{maxAgents, maxPrice, maxWeight}
 use Rattle.model.specs.Instance.{ownerOf, priceOf}
 use Rattle.model.specs.Sheet.{agentsOf, choresOf, difficultWeight, asRead}
 use Rattle.model.specs.Prices.{priceSum, priceUpToOne}
-use Rattle.model.specs.Fairness.{owns}
-use Rattle.model.specs.Step2b.{leastSum, above, supplies}
+use Rattle.model.specs.Step2b.{leastSum, above}
 use Rattle.model.specs.Algorithm.{group, isEntitled}
 use Rattle.sheet.specs.Valid.{Valid}
 use Rattle.algorithm.specs.Core.{Core}
@@ -27,12 +26,10 @@ use Rattle.algorithm.proofs.Best.{price-bound}
 use Rattle.algorithm.proofs.Reading.{read-sound}
 use Rattle.algorithm.proofs.Rings.{above-is, due-found}
 use Rattle.totals.specs.Totals.{Held, Summed}
-use Rattle.market.specs.Market.{groupOf, entitledOf, ByGroup, Liked}
-use Rattle.firsts.specs.Traits.{hasTrait}
-use Rattle.firsts.specs.Table.{Sized, Listed, Firsts}
-use Rattle.rings.specs.Search.{Searching, Searched}
+use Rattle.market.specs.Market.{groupOf, entitledOf, Liked}
+use Rattle.firsts.specs.Table.{Sized, Listed}
+use Rattle.rings.specs.Search.{Searched}
 use Rattle.steps.specs.Turns.{stateOf, Ready, Filling}
-use Rattle.steps.proofs.Wanting.{wanted-trait}
 
 -- prices are at most 1,000,000
 price-fits : {s : List ℕ} {x p group : ℕ → ℕ} {cut : ℕ → Bool} → Valid s → Core (asRead s) x p group cut → (c : ℕ) → c < choresOf s → p c ≤ maxPrice

@@ -8,7 +8,6 @@ use Rattle.finite.proofs.Bits.{set-unique}
 use Rattle.finite.proofs.Lists.{tab-length}
 use Rattle.model.specs.Instance.{ownerOf}
 use Rattle.model.specs.Sheet.{agentsOf, choresOf}
-use Rattle.market.specs.Market.{ByGroup}
 use Rattle.market.specs.Cutting.{CutPrices}
 use Rattle.firsts.specs.Traits.{hasTrait}
 use Rattle.firsts.specs.Table.{Firsts}

@@ -4,7 +4,7 @@ use Prim.Native.Nat.{ℕ, _+_, _*_, _/_, _<_}
 use mathlib.Core.Bool.{cond, true≢false}
 use mathlib.Core.List.{List}
 use mathlib.Core.Path.{_≡_, refl, sym, ap, _∙_}
-use lib.ListN.{length, getD, set}
+use lib.ListN.{length, getD}
 use Rattle.finite.specs.Bits.{bit, SetOf}
 use Rattle.finite.specs.Lists.{tabulate}
 use Rattle.finite.proofs.Lists.{tab-cong}
@@ -15,7 +15,7 @@ use Rattle.model.specs.Algorithm.{State, hand, pass, cut, stop, action, group, 
 use Rattle.algorithm.proofs.Actions.{stepped}
 use Rattle.market.specs.Cutting.{CutPrices}
 use Rattle.firsts.specs.Traits.{traitCount, hasTrait}
-use Rattle.steps.specs.declared.Turn.the-variants.{Moved, Passed, Cut, Ended}
+use Rattle.steps.specs.declared.Turn.the-variants.{Passed, Cut, Ended}
 use Rattle.steps.specs.declared.Turn.{Turn}
 use Rattle.steps.specs.Turns.{stateOf, actionOf, isCut, Tabled, Turning, Turned}
 use Rattle.steps.specs.Looks.{Views, HandedOver}

@@ -5,7 +5,7 @@ ghost use lib.ListN.{length};
 ghost use Rattle.model.specs.Limits.{maxAgents, scratchSize};
 ghost use Rattle.model.specs.Sheet.{agentsOf};
 ghost use Rattle.sheet.specs.Valid.{Valid};
-ghost use Rattle.totals.specs.Totals.{Held, Summed};
+ghost use Rattle.totals.specs.Totals.{Summed};
 ghost use Rattle.firsts.specs.Traits.{freeTrait, hasTrait};
 ghost use Rattle.steps.specs.Turns.{Filling, Tabled, Turning, Turned};
 ghost use Rattle.steps.specs.Looks.{Views, Looking, Seeing, Look, Choice, Sought, Handing, HandedOver, Cutting, CutOff};
