@@ -27,10 +27,8 @@ start c = c .before .before .before .before .before .before .before .before .bef
 
 no-firsts-requires : tie.Need-no-firsts-requires Inv-loop μ-loop
 no-firsts-requires c κs =
-    let start = c .before .before .before .before .before .before .before in
-    let pre = start .pre in
-    let room : start .args .n * traitCount ≤ length (start .args .first .now) = omega (arith, pre .0 .agents, pre .1 .firstSized) in
-    (room, pre .0 .agents, pre .0 .chores)
+    let pre = c .before .before .before .before .before .before .before .pre in
+    (omega (arith, pre .0 .agents, pre .1 .firstSized), omega (arith, pre .0 .agents), omega (arith, pre .0 .chores))
 
 no-sets-requires : tie.Need-no-sets-requires Inv-loop μ-loop
 no-sets-requires c κs = let pre = c .before .before .before .before .before .before .before .before .before .before .before .pre in omega (arith, pre .0 .agents, pre .1 .setsSized)
@@ -59,7 +57,7 @@ room : (c : tie.In-loop Inv-loop μ-loop) → getD (start (c .before) .args .own
 room c = omega (arith, known c, start (c .before) .pre .0 .agents, c .before .loop .inv .1 .sized .setsSized)
 
 sub-w : tie.Need-sub-w Inv-loop μ-loop
-sub-w c = numbered (c .before)
+sub-w c = omega (arith, numbered (c .before))
 
 mul-traits : tie.Need-mul-traits Inv-loop μ-loop
 mul-traits c = search needs
@@ -83,7 +81,7 @@ mul-if1 : tie.Need-mul-if1 Inv-loop μ-loop
 mul-if1 c = let turn = c .before .before .before .before .before in omega (arith, known turn, start (turn .before) .pre .0 .agents)
 
 slice-read-if1 : tie.Need-slice-read-if1 Inv-loop μ-loop
-slice-read-if1 c = room (c .before .before .before .before .before .before)
+slice-read-if1 c = omega (arith, room (c .before .before .before .before .before .before))
 
 mul-if1-2 : tie.Need-mul-if1-2 Inv-loop μ-loop
 mul-if1-2 c = let turn = c .before .before .before .before .before .before in omega (arith, known turn, start (turn .before) .pre .0 .agents)
