@@ -1,5 +1,5 @@
 -- `firsts::table::fill` meets its contract. The loop's invariant: the rows of the chores passed.
-use Prim.Native.Nat.{_-_, _*_, _≤_, _<_}
+use Prim.Native.Nat.{_-_, _≤_, _<_}
 use mathlib.Core.Path.{_≡_, refl, sym, _∙_}
 use mathlib.Core.Logic.{⊎-elim}
 use native.Mathlib.Omega.{arith}
@@ -8,7 +8,7 @@ use borrow.Author.Needs.{needs}
 use Rattle.model.specs.Instance.{ownerOf}
 use Rattle.model.specs.Limits.{maxChores}
 use Rattle.market.specs.Market.{entitledOf}
-use Rattle.firsts.specs.Traits.{traitCount, hasTrait}
+use Rattle.firsts.specs.Traits.{hasTrait}
 use Rattle.firsts.proofs.Filling.{Filled, filled-none, filled-next, filled-all, nothing-new}
 use Rattle.firsts.proofs.table.fill.Statement.{statement}
 use Rattle.firsts.proofs.table.fill.Tie as tie

@@ -9,7 +9,6 @@ use borrow.Author.Needs.{needs}
 use borrow.Author.Tests.{ltb-true, ltb-false, eq-eqb, ne-eqb}
 use Rattle.model.specs.Instance.{ownerOf}
 use Rattle.model.specs.Fairness.{owns}
-use Rattle.model.specs.Limits.{maxChores}
 use Rattle.market.specs.Market.{entitledOf}
 use Rattle.firsts.specs.Traits.{traitCount, hasTrait}
 use Rattle.firsts.specs.Table.{SearchedOn}
@@ -70,14 +69,13 @@ put-requires : tie.Need-put-requires Inv-loop μ-loop
 put-requires c κs =
     let loop = c .before .before .before .before .before .before .before .before .before in
     let pre = start loop .pre in
-    let searched = loop .loop .inv .2 in
-    let few : loop .loop .k ≤ maxChores = omega (arith, pre .0 .chores) in (
+    let searched = loop .loop .inv .2 in (
       record {
         firstSized = searched .size ∙ pre .1 .firstSized;
         agent = pre .1 .agent;
         traits = and-lt traitCount (loop .loop .left) (c .before .traits .result) (searched .notFound .below) (c .before .traits .ensures .below);
       },
-      few,
+      omega (arith, pre .0 .chores, pre .2),
     )
 
 add-k-2 : tie.Need-add-k-2 Inv-loop μ-loop
