@@ -15,7 +15,7 @@ use crate::traits::View;
 use crate::traits::traits;
 
 // In the rows of n agents no trait has a chore: m stands for none.
-fn no_firsts(n: usize, m: usize, first: &mut [u16])
+fn clear_firsts(n: usize, m: usize, first: &mut [u16])
     requires { ⌜ (n * traitCount ≤ length (now first)) × (n ≤ maxAgents) × (m ≤ maxChores) ⌝ }
     ensures { λ r. ⌜ Cleared (n * traitCount) m (now (first .entry)) (now (first .exit)) ⌝ }
 {
@@ -27,7 +27,7 @@ fn no_firsts(n: usize, m: usize, first: &mut [u16])
     }
 }
 
-fn no_sets(n: usize, sets: &mut [u64])
+fn clear_sets(n: usize, sets: &mut [u64])
     requires { ⌜ n ≤ length (now sets) ⌝ }
     ensures { λ r. ⌜ Cleared n 0 (now (sets .entry)) (now (sets .exit)) ⌝ }
 {
@@ -52,8 +52,8 @@ pub fn fill(
     requires { ⌜ Listed n (now owners) (now prices) (now entitled) (now likes) × Sized (now first) (now sets) ⌝ }
     ensures { λ r. ⌜ Firsts n (length (now (owners .entry))) (ownerOf (now (owners .entry))) (hasTrait (now (prices .entry)) (now (entitled .entry)) (now (likes .entry)) (view .free) (view .grouped) (view .mid) (view .top)) (now (first .exit)) (now (sets .exit)) ⌝ }
 {
-    no_firsts(n, owners.len(), first);
-    no_sets(n, sets);
+    clear_firsts(n, owners.len(), first);
+    clear_sets(n, sets);
     let mut c = 0;
     while c < owners.len() {
         let w = owners[c] as usize - 1;

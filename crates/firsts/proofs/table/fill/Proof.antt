@@ -25,19 +25,19 @@ abbrev μ-loop : tie.MeasureT-loop
 abbrev start : tie.At-loop Inv-loop μ-loop → tie.Start Inv-loop μ-loop
 start c = c .before .before .before .before .before .before .before .before .before .before .before .before .before .before .before
 
-no-firsts-requires : tie.Need-no-firsts-requires Inv-loop μ-loop
-no-firsts-requires c κs =
+clear-firsts-requires : tie.Need-clear-firsts-requires Inv-loop μ-loop
+clear-firsts-requires c κs =
     let pre = c .before .before .before .before .before .before .before .pre in
     (omega (arith, pre .0 .agents, pre .1 .firstSized), omega (arith, pre .0 .agents), omega (arith, pre .0 .chores))
 
-no-sets-requires : tie.Need-no-sets-requires Inv-loop μ-loop
-no-sets-requires c κs = let pre = c .before .before .before .before .before .before .before .before .before .before .before .pre in omega (arith, pre .0 .agents, pre .1 .setsSized)
+clear-sets-requires : tie.Need-clear-sets-requires Inv-loop μ-loop
+clear-sets-requires c κs = let pre = c .before .before .before .before .before .before .before .before .before .before .before .pre in omega (arith, pre .0 .agents, pre .1 .setsSized)
 
 loop-holds : tie.Need-loop-holds Inv-loop μ-loop
 loop-holds c =
     let sets = c .before .before in
     let first = sets .before .before .before .before in
-    (omega arith, filled-none _ _ (first .before .before .before .before .before .before .before .before .pre .1) (first .no-firsts .ensures) (sets .no-sets .ensures))
+    (omega arith, filled-none _ _ (first .before .before .before .before .before .before .before .before .pre .1) (first .clear-firsts .ensures) (sets .clear-sets .ensures))
 
 shared-slice-read-w : tie.Need-shared-slice-read-w Inv-loop μ-loop
 shared-slice-read-w c = search needs
@@ -142,8 +142,8 @@ fill-spec =
     (tie.spec
     Inv-loop
     μ-loop
-    no-firsts-requires
-    no-sets-requires
+    clear-firsts-requires
+    clear-sets-requires
     loop-holds
     shared-slice-read-w
     cast-w

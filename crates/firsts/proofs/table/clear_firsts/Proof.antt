@@ -1,4 +1,4 @@
--- `firsts::table::no_firsts` meets its contract. The loop's invariant: the entries passed are m.
+-- `firsts::table::clear_firsts` meets its contract. The loop's invariant: the entries passed are m.
 use Prim.Native.Nat.{_-_, _*_, _≤_}
 use mathlib.Core.Path.{_≡_}
 use native.Mathlib.Omega.{arith}
@@ -6,8 +6,8 @@ use borrow.Author.Needs.{needs}
 use Rattle.firsts.specs.Traits.{traitCount}
 use Rattle.firsts.specs.Table.{Cleared}
 use Rattle.firsts.proofs.Clearing.{cleared-none, cleared-next}
-use Rattle.firsts.proofs.table.no_firsts.Statement.{statement}
-use Rattle.firsts.proofs.table.no_firsts.Tie as tie
+use Rattle.firsts.proofs.table.clear_firsts.Statement.{statement}
+use Rattle.firsts.proofs.table.clear_firsts.Tie as tie
 
 abbrev Inv-loop : tie.InvT-loop
 Inv-loop n m first₀ none i₀ first i = (i ≤ n * traitCount) × Cleared i none first₀ first
@@ -48,8 +48,8 @@ returns c =
     let all : loop .i ≡ c .before .before .args .n * traitCount = omega arith in
     rw all at (loop .inv .1)
 
-pub no-firsts-spec : {M : Type 1} → statement M
-no-firsts-spec =
+pub clear-firsts-spec : {M : Type 1} → statement M
+clear-firsts-spec =
     tie.close
     (tie.spec
     Inv-loop

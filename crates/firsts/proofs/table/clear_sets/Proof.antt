@@ -1,12 +1,12 @@
--- `firsts::table::no_sets` meets its contract. The loop's invariant: the sets passed are empty.
+-- `firsts::table::clear_sets` meets its contract. The loop's invariant: the sets passed are empty.
 use Prim.Native.Nat.{_-_, _≤_}
 use mathlib.Core.Path.{_≡_}
 use native.Mathlib.Omega.{arith}
 use borrow.Author.Needs.{needs}
 use Rattle.firsts.specs.Table.{Cleared}
 use Rattle.firsts.proofs.Clearing.{cleared-none, cleared-next}
-use Rattle.firsts.proofs.table.no_sets.Statement.{statement}
-use Rattle.firsts.proofs.table.no_sets.Tie as tie
+use Rattle.firsts.proofs.table.clear_sets.Statement.{statement}
+use Rattle.firsts.proofs.table.clear_sets.Tie as tie
 
 abbrev Inv-loop : tie.InvT-loop
 Inv-loop n sets₀ w₀ sets w = (w ≤ n) × Cleared w 0 sets₀ sets
@@ -41,8 +41,8 @@ returns c =
     let all : loop .w ≡ c .before .before .args .n = omega arith in
     rw all at (loop .inv .1)
 
-pub no-sets-spec : {M : Type 1} → statement M
-no-sets-spec =
+pub clear-sets-spec : {M : Type 1} → statement M
+clear-sets-spec =
     tie.close
     (tie.spec
     Inv-loop
