@@ -19,7 +19,7 @@ use Rattle.sheet.proofs.Refusal.{valid, lent-ok, lent-room}
 use Rattle.algorithm.proofs.Theorem.{demand3-of, few-of}
 use Rattle.steps.specs.Turns.{stateOf}
 use Rattle.allocation.specs.Shared.{Shared, SharedWith}
-use Rattle.allocation.proofs.Running.{ended-shaped}
+use Rattle.runs.proofs.Running.{ended-shaped}
 
 -- nothing is turned down: the sheet breaks no rule, and what is lent has room
 pub record Fine (s : List ℕ) (owners prices scratch : ℕ) : Type 0 where

@@ -18,7 +18,7 @@ use Rattle.sheet.proofs.Refusal.{valid}
 use Rattle.algorithm.specs.Theorem.{Theorem}
 use Rattle.algorithm.proofs.Theorem.{theorem}
 use Rattle.allocation.specs.Final.{accepts, finalBy, finalOf}
-use Rattle.allocation.proofs.Running.{most-moves, ended-shaped}
+use Rattle.runs.proofs.Running.{most-moves, ended-shaped}
 
 module _ (s : List ℕ) where
   pub accept : sheetRefusal s ≡ 0 → accepts s ≡ true

@@ -11,8 +11,8 @@ use Rattle.model.specs.Sheet.{agentsOf, choresOf, asRead}
 use Rattle.model.specs.Algorithm.{opening, after}
 use Rattle.model.specs.Record.{movesIn}
 use Rattle.records.proofs.Holding.{nothing-yet}
-use Rattle.market.specs.Opened.{OpenInto, Opened}
-use Rattle.allocation.specs.Runs.{Running, Kit}
+use Rattle.opening.specs.Opened.{OpenInto, Opened}
+use Rattle.runs.specs.Runs.{Running, Kit}
 use Rattle.allocation.specs.Shared.{Sharing, Working, Long}
 
 -- the part `xs[0..j]` of a list of one value, and its length for any list

@@ -10,7 +10,7 @@ use Rattle.model.specs.Record.{movesIn}
 use Rattle.model.specs.Promises.{Allocated}
 use Rattle.records.specs.Noted.{Holding}
 use Rattle.sheet.specs.Valid.{Valid}
-use Rattle.allocation.specs.Runs.{RunEnds}
+use Rattle.runs.specs.Runs.{RunEnds}
 
 pub record Sharing (s owners prices : List ℕ) : Type 0 where
   pub valid : Valid s

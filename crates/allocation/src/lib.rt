@@ -8,10 +8,8 @@ ghost use Rattle.model.specs.Refusals.{allocateRefusal};
 ghost use Rattle.model.specs.Promises.{Allocated};
 ghost use Rattle.allocation.specs.Shared.{few, Sharing, Working, Long, Shared, SharedWith};
 
-mod run;
-
-use crate::run::run;
-use market::opening::open;
+use runs::run;
+use opening::open;
 use sheet::or_else;
 use steps::Stand;
 use totals::clear;

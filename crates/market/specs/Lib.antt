@@ -1,3 +1,2 @@
 pub mod Market
-pub mod Opened
 pub mod Cutting

@@ -10,7 +10,7 @@ use Rattle.model.specs.Limits.{maxChores}
 use Rattle.model.specs.Sheet.{agentsOf, choresOf, asRead}
 use Rattle.model.specs.Algorithm.{opening}
 use Rattle.model.specs.Record.{moveSize}
-use Rattle.market.specs.Opened.{OpenInto}
+use Rattle.opening.specs.Opened.{OpenInto}
 use Rattle.recorded.specs.Moves.{movesFor}
 use Rattle.allocation.specs.Final.{finalOf}
 use Rattle.allocation.proofs.Sharing.{first-sized}

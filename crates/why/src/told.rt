@@ -1,5 +1,5 @@
 // The text of one sheet, from what its share-out answered and left in the lists lent to it.
-use market::opening::open;
+use opening::open;
 use text::lines;
 use text::moves;
 ghost use Prim.Native.Nat.{_≤_};

@@ -1,0 +1,2 @@
+pub mod Running
+pub mod Counting
