@@ -27,7 +27,8 @@ use Rattle.algorithm.proofs.RunMoves.{leads}
 use Rattle.steps.specs.declared.Stand.{Stand}
 use Rattle.steps.specs.declared.Turn.{Turn}
 use Rattle.steps.specs.declared.Turn.the-variants.{Moved, Passed, Cut, Ended}
-use Rattle.steps.specs.Turns.{stateOf, named, actionOf, isCut, Ready, Tabled, Turning, Turned}
+use Rattle.seeking.specs.Looks.{Ready}
+use Rattle.steps.specs.Turns.{stateOf, named, actionOf, isCut, Tabled, Turning, Turned}
 use Rattle.runs.specs.Runs.{Running, Kit, RunEnds, Sees, Begun, isEnd, movesAfter, cutsAfter, stageAfter, Told, Counting, Counted}
 use Rattle.steps.proofs.Ready.{reached-ready}
 

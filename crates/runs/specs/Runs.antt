@@ -17,7 +17,7 @@ use Rattle.steps.specs.declared.Stand.{Stand}
 use Rattle.steps.specs.declared.Turn.{Turn}
 use Rattle.steps.specs.declared.Turn.the-variants.{Moved, Passed, Cut, Ended}
 use Rattle.steps.specs.Turns.{stateOf, isCut}
-use Rattle.steps.specs.Looks.{Views}
+use Rattle.seeking.specs.Looks.{Views}
 
 -- and its moves so far are in `bytes`, which were lent as `lent`
 pub record Running (s owners prices groups entitled lent bytes : List ℕ) (moves cuts stage : ℕ) : Type 0 where

@@ -10,11 +10,11 @@ ghost use Rattle.steps.specs.Turns.{Tabled};
 ghost use Rattle.runs.specs.Runs.{Running, Kit, RunEnds, isEnd, Begun, Counting, Counted};
 use firsts::traits::TRAITS;
 use records::note;
+use seeking::view_of;
 use steps::Stand;
 use steps::Turn;
 use steps::fill_table;
 use steps::step;
-use steps::view_of;
 
 // Where a run starts: in 2b, before its first move.
 fn begin(sheet: &[u8], groups: &[u8]) -> Stand

@@ -1,8 +1,5 @@
-pub mod Wanting
 pub mod Ready
 pub mod Tables
-pub mod Looking
-pub mod Choosing
 pub mod Turned
 pub mod Stepped
 pub mod Staged

@@ -19,9 +19,10 @@ use Rattle.firsts.specs.Traits.{traitCount, hasTrait}
 use Rattle.steps.specs.declared.Turn.{Turn}
 use Rattle.steps.specs.declared.Turn.the-variants.{Passed}
 use Rattle.steps.specs.Turns.{stateOf, Turning, Turned}
-use Rattle.steps.specs.Looks.{Views, Choice, Handing, HandedOver}
-use Rattle.steps.proofs.Wanting.{free-trait}
-use Rattle.steps.proofs.Ready.{listed-most}
+use Rattle.seeking.specs.Looks.{Views, Choice}
+use Rattle.steps.specs.Parts.{Handing, HandedOver}
+use Rattle.seeking.proofs.Wanting.{free-trait}
+use Rattle.seeking.proofs.Ready.{listed-most}
 use Rattle.steps.proofs.Tables.{rows-of}
 use Rattle.steps.proofs.Turned.{moved, passed-on}
 

@@ -20,9 +20,10 @@ use Rattle.rings.proofs.Found.{receiver-is, reached-is}
 use Rattle.steps.specs.declared.Turn.{Turn}
 use Rattle.steps.specs.declared.Turn.the-variants.{Cut, Ended}
 use Rattle.steps.specs.Turns.{stateOf, Tabled, Turning, Turned}
-use Rattle.steps.specs.Looks.{Views, Look, Handing, HandedOver, Cutting, CutOff}
-use Rattle.steps.proofs.Wanting.{wanted-trait}
-use Rattle.steps.proofs.Ready.{held, listed, listed-most}
+use Rattle.seeking.specs.Looks.{Views, Look}
+use Rattle.steps.specs.Parts.{Handing, HandedOver, Cutting, CutOff}
+use Rattle.seeking.proofs.Wanting.{wanted-trait}
+use Rattle.seeking.proofs.Ready.{held, listed, listed-most}
 use Rattle.steps.proofs.Tables.{rows-of}
 use Rattle.steps.proofs.Turned.{moved, ended, cut-off}
 

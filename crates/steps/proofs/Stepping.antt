@@ -11,7 +11,8 @@ use Rattle.firsts.specs.Traits.{hasTrait}
 use Rattle.steps.specs.declared.Turn.{Turn}
 use Rattle.steps.specs.declared.Turn.the-variants.{Passed, Cut, Ended}
 use Rattle.steps.specs.Turns.{Tabled, Turning, Turned}
-use Rattle.steps.specs.Looks.{Views, Sought, Handing, HandedOver, CutOff}
+use Rattle.seeking.specs.Looks.{Views, Sought}
+use Rattle.steps.specs.Parts.{Handing, HandedOver, CutOff}
 use Rattle.steps.proofs.Stepped as in2b
 use Rattle.steps.proofs.Staged as in2a
 

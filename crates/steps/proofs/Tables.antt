@@ -11,8 +11,9 @@ use Rattle.model.specs.Sheet.{agentsOf, choresOf}
 use Rattle.market.specs.Cutting.{CutPrices}
 use Rattle.firsts.specs.Traits.{hasTrait}
 use Rattle.firsts.specs.Table.{Firsts}
-use Rattle.steps.specs.Turns.{Ready, Filling, Tabled}
-use Rattle.steps.specs.Looks.{Views, Looking}
+use Rattle.seeking.specs.Looks.{Ready}
+use Rattle.steps.specs.Turns.{Filling, Tabled}
+use Rattle.seeking.specs.Looks.{Views, Looking}
 
 module _ {s groups : List ℕ} {free grouped low mid top : ℕ} (seen : Views s groups free grouped low mid top) where
   -- the words are the groups' only ones

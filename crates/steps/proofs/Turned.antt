@@ -18,7 +18,8 @@ use Rattle.firsts.specs.Traits.{traitCount, hasTrait}
 use Rattle.steps.specs.declared.Turn.the-variants.{Passed, Cut, Ended}
 use Rattle.steps.specs.declared.Turn.{Turn}
 use Rattle.steps.specs.Turns.{stateOf, actionOf, isCut, Tabled, Turning, Turned}
-use Rattle.steps.specs.Looks.{Views, HandedOver}
+use Rattle.seeking.specs.Looks.{Views}
+use Rattle.steps.specs.Parts.{HandedOver}
 use Rattle.steps.proofs.Tables.{tabled-by, rows-of}
 
 module _ {s owners prices groups entitled likes first sets : List ℕ} {cuts stage : ℕ} (T : Turning s owners prices groups entitled likes first sets cuts stage) where

@@ -1,2 +1,2 @@
 pub mod Turns
-pub mod Looks
+pub mod Parts

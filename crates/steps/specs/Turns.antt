@@ -1,18 +1,18 @@
 -- What a turn of the loop is given, and what it names: one step of Algorithm 1 on a state of lists.
-use Prim.Native.Nat.{ℕ, _+_, _*_, _-_, _<_}
+use Prim.Native.Nat.{ℕ, _+_, _*_, _-_}
 use mathlib.Core.Bool.{Bool, true, false}
 use mathlib.Core.List.{List}
 use mathlib.Core.Path.{_≡_}
-use lib.ListN.{length, getD}
-use Rattle.model.specs.Instance.{ownerOf, priceOf}
+use lib.ListN.{length}
+use Rattle.model.specs.Instance.{ownerOf}
 use Rattle.model.specs.Sheet.{agentsOf, choresOf, easyWeight, difficultWeight, asRead}
 use Rattle.model.specs.Algorithm.{State, Action, hand, pass, cut, stop, Outcome, busy, done, action, step}
 use Rattle.sheet.specs.Valid.{Valid}
-use Rattle.algorithm.specs.Core.{Core}
 use Rattle.algorithm.specs.Reached.{Reached}
-use Rattle.market.specs.Market.{groupOf, entitledOf, ByGroup, Liked}
+use Rattle.market.specs.Market.{ByGroup}
 use Rattle.firsts.specs.Traits.{hasTrait}
 use Rattle.firsts.specs.Table.{Sized, Listed, Firsts}
+use Rattle.seeking.specs.Looks.{Ready}
 use Rattle.steps.specs.declared.Turn.{Turn}
 use Rattle.steps.specs.declared.Turn.the-variants.{Moved, Passed, Cut, Ended}
 
@@ -40,17 +40,6 @@ isCut (Moved chore giver receiver) = false
 isCut Passed = false
 isCut Cut = true
 isCut Ended = false
-
--- the lists of a state with the core invariant
-pub record Ready (s owners prices groups entitled likes : List ℕ) : Type 0 where
-  pub valid : Valid s
-  pub ownersSized : length owners ≡ choresOf s
-  pub pricesSized : length prices ≡ choresOf s
-  pub groupsSized : length groups ≡ agentsOf s
-  pub entitledSized : length entitled ≡ choresOf s
-  pub numbered : (c : ℕ) → c < choresOf s → 0 < getD owners c 0
-  pub core : Core (asRead s) (ownerOf owners) (priceOf prices) (groupOf groups) (entitledOf entitled)
-  pub liking : Liked (asRead s) likes
 
 -- what the table is worked out from
 pub record Filling (s owners prices groups entitled likes first sets : List ℕ) : Type 0 where

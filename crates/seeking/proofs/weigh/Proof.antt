@@ -1,9 +1,9 @@
--- `steps::weigh` meets its contract.
+-- `seeking::weigh` meets its contract.
 use borrow.Author.Needs.{needs}
-use Rattle.steps.proofs.Ready.{held}
-use Rattle.steps.proofs.Looking.{weighable, summed}
-use Rattle.steps.proofs.weigh.Statement.{statement}
-use Rattle.steps.proofs.weigh.Tie as tie
+use Rattle.seeking.proofs.Ready.{held}
+use Rattle.seeking.proofs.Looking.{weighable, summed}
+use Rattle.seeking.proofs.weigh.Statement.{statement}
+use Rattle.seeking.proofs.weigh.Tie as tie
 
 -- back from the rests to the number of agents, to the sums, and to the start
 abbrev read : tie.After-rests-arg3 → tie.After-agents

@@ -1,4 +1,4 @@
--- `steps::look` meets its contract.
+-- `seeking::look` meets its contract.
 use Prim.Native.Nat.{_≤_}
 use mathlib.Core.Logic.{⊎-elim}
 use mathlib.Core.Path.{refl, sym, ap, _∙_}
@@ -11,10 +11,10 @@ use Rattle.model.specs.Instance.{ownerOf, priceOf}
 use Rattle.model.specs.Sheet.{asRead}
 use Rattle.totals.specs.Totals.{Summed}
 use Rattle.rings.specs.Search.{Searched}
-use Rattle.steps.proofs.Ready.{zeros-sized, summed-of, any-giver, any-is}
-use Rattle.steps.proofs.Looking.{searching}
-use Rattle.steps.proofs.look.Statement.{statement}
-use Rattle.steps.proofs.look.Tie as tie
+use Rattle.seeking.proofs.Ready.{zeros-sized, summed-of, any-giver, any-is}
+use Rattle.seeking.proofs.Looking.{searching}
+use Rattle.seeking.proofs.look.Statement.{statement}
+use Rattle.seeking.proofs.look.Tie as tie
 
 -- back from the search to the sums, to the first call, and to the start
 abbrev weighed : tie.After-search-arg → tie.After-weigh

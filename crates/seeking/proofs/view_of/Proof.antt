@@ -1,12 +1,12 @@
--- `steps::view_of` meets its contract.
+-- `seeking::view_of` meets its contract.
 use Prim.Native.Nat.{ℕ, _*_, _^_, _≤_, _<_}
 use mathlib.Core.Path.{ap₂}
 use native.Mathlib.Nat.{mul-le-mul}
 use native.Mathlib.Omega.{arith}
 use borrow.Author.Needs.{needs}
 use Rattle.model.specs.Limits.{maxWeight}
-use Rattle.steps.proofs.view_of.Statement.{statement}
-use Rattle.steps.proofs.view_of.Tie as tie
+use Rattle.seeking.proofs.view_of.Statement.{statement}
+use Rattle.seeking.proofs.view_of.Tie as tie
 
 product-fits : {x y : ℕ} → x ≤ maxWeight → y ≤ maxWeight → x * y < 2 ^ 32
 product-fits h l = omega (arith, mul-le-mul h l)

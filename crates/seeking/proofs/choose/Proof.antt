@@ -1,10 +1,10 @@
--- `steps::choose` meets its contract.
+-- `seeking::choose` meets its contract.
 use mathlib.Core.Logic.{⊎-elim}
 use borrow.Author.Needs.{needs}
-use Rattle.steps.proofs.Ready.{summed-of}
-use Rattle.steps.proofs.Choosing.{Chose, chosen-due, none-gives, none-takes, none-above}
-use Rattle.steps.proofs.choose.Statement.{statement}
-use Rattle.steps.proofs.choose.Tie as tie
+use Rattle.seeking.proofs.Ready.{summed-of}
+use Rattle.seeking.proofs.Choosing.{Chose, chosen-due, none-gives, none-takes, none-above}
+use Rattle.seeking.proofs.choose.Statement.{statement}
+use Rattle.seeking.proofs.choose.Tie as tie
 
 -- back from the choices to the sums that they go by, to the first call, and to the start
 abbrev weighed : tie.After-least-after → tie.After-weigh

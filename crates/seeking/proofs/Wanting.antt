@@ -20,7 +20,7 @@ use Rattle.algorithm.proofs.Best.{best-wanted}
 use Rattle.algorithm.proofs.Reading.{read-sound}
 use Rattle.market.specs.Market.{groupOf, entitledOf, ByGroup}
 use Rattle.firsts.specs.Traits.{freeTrait, wantingWord, traitIn, hasTrait}
-use Rattle.steps.specs.Turns.{Ready}
+use Rattle.seeking.specs.Looks.{Ready}
 
 -- the members of a wanting word
 set-wanting :

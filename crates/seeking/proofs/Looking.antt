@@ -26,9 +26,9 @@ use Rattle.firsts.specs.Traits.{topTrait, midTrait, hasTrait}
 use Rattle.firsts.specs.Dearest.{Weighing, Weighed}
 use Rattle.firsts.proofs.DearestIn.{top-trait, mid-trait, weighing, weighed-up}
 use Rattle.rings.specs.Search.{Searching}
-use Rattle.steps.specs.Looks.{Looking}
-use Rattle.steps.proofs.Wanting.{wanted-trait}
-use Rattle.steps.proofs.Ready.{sum-is, up-is, least-is}
+use Rattle.seeking.specs.Looks.{Looking}
+use Rattle.seeking.proofs.Wanting.{wanted-trait}
+use Rattle.seeking.proofs.Ready.{sum-is, up-is, least-is}
 
 module _ {s owners prices groups sets : List ℕ} {free grouped low mid top : ℕ} (L : Looking s owners prices groups sets free grouped low mid top) where
   few : agentsOf s ≤ maxAgents

@@ -19,9 +19,8 @@ use Rattle.model.specs.Step2a.{giver2a, receiver2a, due2a}
 use Rattle.totals.specs.Totals.{Summed}
 use Rattle.market.specs.Market.{groupOf}
 use Rattle.firsts.specs.Traits.{freeTrait}
-use Rattle.steps.specs.Turns.{Ready}
-use Rattle.steps.specs.Looks.{Choice}
-use Rattle.steps.proofs.Ready.{sum-is, up-is}
+use Rattle.seeking.specs.Looks.{Ready, Choice}
+use Rattle.seeking.proofs.Ready.{sum-is, up-is}
 
 -- What 2a goes by: n agents, their sums and price up to one, and the giver and the receiver chosen from them.
 pub record Chose (s owners prices groups entitled likes : List ℕ) (stage n : ℕ) (sums ups : List ℕ) (i j : ℕ) : Type 0 where

@@ -1,9 +1,9 @@
--- `steps::seek` meets its contract.
+-- `seeking::seek` meets its contract.
 use mathlib.Core.Path.{refl}
 use native.Mathlib.Omega.{arith}
 use borrow.Author.Needs.{needs}
-use Rattle.steps.proofs.seek.Statement.{statement}
-use Rattle.steps.proofs.seek.Tie as tie
+use Rattle.seeking.proofs.seek.Statement.{statement}
+use Rattle.seeking.proofs.seek.Tie as tie
 
 look-requires : tie.Need-look-requires
 look-requires c κs = search needs

@@ -1,0 +1,4 @@
+pub mod Ready
+pub mod Wanting
+pub mod Looking
+pub mod Choosing
