@@ -1,8 +1,9 @@
-# `make` proves and builds what `make install` installs. `make test` is the gate: the Rust tests, then every proof, every edit that must fail
-# and every program, then the proved library beside the second program, as C and installed. Its last line is rt's own count.
+# `make` proves and builds what `make install` installs. `make test` is the gate: that the table of the documents' sentences cites what is there, the
+# Rust tests, then every proof, every edit that must fail and every program, then the proved library beside the second program, as C and installed.
+# Its last line is rt's own count.
 SHELL := /bin/bash
 .SHELLFLAGS := -eu -o pipefail -c
-.PHONY: all test ctest ctest-archive ctest-prototypes ctest-calls ctest-header cases books program installed install uninstall run bench
+.PHONY: all test trace ctest ctest-archive ctest-prototypes ctest-calls ctest-header cases books program installed install uninstall run bench
 
 CARGO_TEST := cargo test --offline --quiet --manifest-path
 CARGO_BUILD := cargo build --offline --quiet --release --manifest-path
@@ -19,7 +20,7 @@ all: $(ARCHIVE)
 $(ARCHIVE): crates.txt $(shell find crates -name '*.rt' -o -name '*.antt')
 	@rt staticlib capi
 
-test:
+test: trace
 	@$(CARGO_TEST) reference/Cargo.toml
 	@$(CARGO_TEST) textform/Cargo.toml
 	@count=$$(mktemp); rt ci | tee "$$count"; \
@@ -29,6 +30,11 @@ test:
 	tail -n 1 "$$count"; rm -f "$$count"
 
 include ctests/ctests.mk install.mk
+
+# What docs/TRACE.md cites for each sentence of the documents is there.
+trace:
+	@tests/trace/self
+	@tests/trace/check
 
 # The cases of the scope without a star: what the proved library answers, the second program answers too.
 cases:
