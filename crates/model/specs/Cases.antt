@@ -11,8 +11,8 @@ use lib.ListN.{length, getD}
 use Rattle.finite.specs.Packed.{packed}
 use Rattle.model.specs.Instance.{ownerOf}
 use Rattle.model.specs.Sheet.{asMarked, asRead}
-use Rattle.model.specs.Fairness.{dominates, isAllocation}
-use Rattle.model.specs.Algorithm.{State, Ends}
+use Rattle.model.specs.Fairness.{totalCost, dominates, isAllocation}
+use Rattle.model.specs.Algorithm.{State, opening, Ends}
 use Rattle.model.specs.Record.{movesIn, recordOf}
 use Rattle.model.specs.Strands.{joinedSheet, strandMarks}
 use Rattle.model.specs.Refusals.{sheetRefusal, allocateRefusal, recordedRefusal, strandsRefusal, joinRefusal, showRefusal, bookRefusal}
@@ -51,9 +51,11 @@ sheet a b texts = header (length texts) (firstCount texts) a b ++ allRows texts
 pub data Case : Type 0 where
   -- the share-out of a sheet: its owners, prices, moves and cuts
   shared-out : List ℕ → List ℕ → List ℕ → ℕ → ℕ → Case
+  -- the opening list of a sheet, and what it costs in total, as the share-out reads the marks
+  opens : List ℕ → List ℕ → ℕ → Case
   -- a sheet's refusal number, 0 where it is taken
   judged : List ℕ → ℕ → Case
-  -- a sheet's bytes
+  -- the bytes of a sheet or of a move
   spelled : List ℕ → List ℕ → Case
   -- the refusal number of a sheet's share-out, with lent owners, prices and scratch of so many entries
   lent : List ℕ → ℕ → ℕ → ℕ → ℕ → Case
@@ -103,6 +105,7 @@ pub record Shows (s owners other : List ℕ) : Type 0 where
 
 unfoldable pub Meets : Case → Type 0
 Meets (shared-out s owners prices moves cuts) = Shares s owners prices moves cuts
+Meets (opens s owners total) = (opening (asRead s) .owners ≡ owners) × (totalCost (asRead s) (ownerOf owners) ≡ total)
 Meets (judged s k) = sheetRefusal s ≡ k
 Meets (spelled s bytes) = s ≡ bytes
 Meets (lent s owners prices scratch k) = allocateRefusal s owners prices scratch ≡ k

@@ -1,12 +1,13 @@
 -- Document 02, request 1: "a record of the run: for each move, in the order made, the reel, the giver, the receiver, the round and the step
 -- (1 for 2a, 2 for 2b), six bytes each in this order, the reel as two bytes and high byte first". The moves are read off Algorithm 1's own
 -- steps.
-use Prim.Native.Nat.{ℕ, zero, suc, _+_, _/_, _%_, _<_}
+use Prim.Native.Nat.{ℕ, zero, suc, _+_, _*_, _-_, _/_, _%_, _<_}
 use mathlib.Core.Bool.{cond}
 use mathlib.Core.List.{List, [], _∷_, _++_}
 use mathlib.Core.Path.{_≡_}
 use lib.Dec.{eqb}
 use lib.ListN.{getD, set}
+use Rattle.finite.specs.Lists.{wordAt}
 use Rattle.model.specs.Instance.{Instance}
 use Rattle.model.specs.Algorithm.{State, Action, hand, pass, cut, stop, lack, Outcome, busy, done, lacking, action, after}
 
@@ -57,6 +58,17 @@ moveBytes t = (t .chore + 1) / 256 ∷ (t .chore + 1) % 256 ∷ (t .giver + 1) �
 unfoldable pub recordOf : List Move → List ℕ
 recordOf [] = []
 recordOf (t ∷ ts) = moveBytes t ++ recordOf ts
+
+-- move k, counted from 0, read back from the bytes of a record
+unfoldable pub moveIn : List ℕ → ℕ → Move
+moveIn bytes k =
+    record {
+      chore = wordAt bytes (moveSize * k) - 1;
+      giver = getD bytes (moveSize * k + 2) 0 - 1;
+      receiver = getD bytes (moveSize * k + 3) 0 - 1;
+      round = getD bytes (moveSize * k + 4) 0;
+      step = getD bytes (moveSize * k + 5) 0;
+    }
 
 -- "The record played over the opening list": each chore goes to its receiver, move by move
 unfoldable pub played : List Move → List ℕ → List ℕ

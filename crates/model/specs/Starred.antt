@@ -1,12 +1,13 @@
 -- The cases of document 01 with a star, and more where no starred one notices a wrong definition. The theorem `starred` (proofs/Starred.antt)
 -- says that the definitions meet each of them.
-use Prim.Native.Nat.{ℕ}
+use Prim.Native.Nat.{ℕ, zero, suc, _+_, _*_, _/_, _%_}
 use mathlib.Core.List.{List, [], _∷_, _++_}
 use lib.ListN.{replicate}
 use Rattle.finite.specs.Packed.{bytesFor}
+use Rattle.model.specs.Record.{moveBytes}
 use Rattle.model.specs.Strands.{joinedSheet}
-use Rattle.model.specs.Replies.{holds, unfair, wasteful, offPrice, accepted}
-use Rattle.model.specs.Cases.{header, sheet, row, Case, shared-out, judged, spelled, lent, lent-book, recorded, lent-record, joins, lent-join, marked, asked, listed, shown, priced}
+use Rattle.model.specs.Replies.{refused, holds, unfair, wasteful, offPrice, accepted}
+use Rattle.model.specs.Cases.{header, sheet, row, Case, shared-out, opens, judged, spelled, lent, lent-book, recorded, lent-record, joins, lent-join, marked, asked, listed, shown, priced}
 
 unfoldable pub sheetC : List ℕ
 sheetC = sheet 1 3 ("eeeee" ∷ "dddde" ∷ [])
@@ -50,6 +51,17 @@ chores m = header 1 m 1 2 ++ replicate (bytesFor m) 0
 -- the header of a sheet with 33 agents and 4,001 chores: two rules broken
 unfoldable pub tooMany : List ℕ
 tooMany = header 33 4001 1 2
+
+-- a book of k sheets of no bytes, and one whose only sheet has k bytes
+unfoldable pub emptySheets : ℕ → ℕ → List ℕ
+emptySheets start zero = []
+emptySheets start (suc k) = 0 ∷ start ∷ 0 ∷ 0 ∷ emptySheets start k
+
+unfoldable pub sheetsOf : ℕ → List ℕ
+sheetsOf k = k ∷ emptySheets (1 + 4 * k) k
+
+unfoldable pub bookOf : ℕ → List ℕ
+bookOf k = 1 ∷ 0 ∷ 5 ∷ k / 256 ∷ k % 256 ∷ replicate k 0
 
 -- two agents and m chores, with these bytes for their rows
 unfoldable pub bytes : ℕ → List ℕ → List ℕ
@@ -167,4 +179,22 @@ table =
     ∷ asked strand1 strand2 1 0 9
     ∷ asked strand1 strand2 1 6 9
     ∷ asked (chores 4000) (chores 1) 2 1 2
+    -- one list of a book an entry short
+    ∷ lent-book bookC 63999 64000 64 8
+    ∷ lent-book bookC 64000 63999 64 8
+    -- 16 sheets and 17; 65,535 bytes and 65,536
+    ∷ lent-book (sheetsOf 16) 64000 64000 64 0
+    ∷ lent-book (sheetsOf 17) 64000 64000 64 9
+    ∷ lent-book (bookOf 65530) 64000 64000 64 0
+    ∷ lent-book (bookOf 65531) 64000 64000 64 9
+    -- a price of 1,000,000 and one of 1,000,001
+    ∷ priced (sheet 1 2 ("e" ∷ [])) (1 ∷ []) (1000000 ∷ []) accepted
+    ∷ priced (sheet 1 2 ("e" ∷ [])) (1 ∷ []) (1000001 ∷ []) (refused 10)
+    -- a joined count above 255; no chores at all
+    ∷ joins (chores 200) (chores 100) (chores 300)
+    ∷ lent-join (sheet 1 3 ("" ∷ "" ∷ [])) (sheet 1 3 ("" ∷ "" ∷ [])) 7 0
+    -- a move of reel 300
+    ∷ spelled (moveBytes (record { chore = 299; giver = 0; receiver = 1; round = 1; step = 2 })) (1 ∷ 44 ∷ 1 ∷ 2 ∷ 1 ∷ 2 ∷ [])
+    -- the opening costs least in total: three chores that cost everybody 3, and two that cost their owners 1
+    ∷ opens (sheet 1 3 ("ddded" ∷ "dddde" ∷ "dddee" ∷ [])) (1 ∷ 2 ∷ 3 ∷ 1 ∷ 2 ∷ []) 11
     ∷ []
