@@ -1,4 +1,4 @@
--- Laws of a list of moves with more behind it.
+-- Laws of a list of moves with more behind it, and of the bytes of a record.
 -- Assumes nothing.
 use Prim.Native.Nat.{ℕ, zero, suc, _+_, _*_, _-_, _/_, _%_, _<_}
 use mathlib.Core.List.{List, [], _∷_, _++_}
@@ -52,8 +52,8 @@ module _ (t : Move) (rest : List ℕ) where
       let step = byte-after (moveSize * k + 5) (moveSize * suc k + 5) (omega arith) in
       cc (high, low, giver, receiver, round, step)
 
-pub read-back : (ts : List Move) (k : ℕ) → k < length ts → moveIn (recordOf ts) k ≡ moveAt ts k
-unfolding recordOf moveAt
-read-back [] k l = absurd (omega arith)
-read-back (t ∷ ts) zero l = move-first t (recordOf ts)
-read-back (t ∷ ts) (suc k) l = move-after t (recordOf ts) k ∙ read-back ts k (omega arith)
+pub read-back : (ts : List Move) (rest : List ℕ) (k : ℕ) → k < length ts → moveIn (recordOf ts ++ rest) k ≡ moveAt ts k
+unfolding recordOf moveAt moveBytes
+read-back [] rest k l = absurd (omega arith)
+read-back (t ∷ ts) rest zero l = move-first t (recordOf ts ++ rest)
+read-back (t ∷ ts) rest (suc k) l = move-after t (recordOf ts ++ rest) k ∙ read-back ts rest k (omega arith)

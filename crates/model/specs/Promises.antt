@@ -17,7 +17,7 @@ use Rattle.model.specs.Strands.{joinedSheet, strandMarks, OnJoined}
 use Rattle.model.specs.Contents.{sheetCount, sheetOf}
 use Rattle.model.specs.Fairness.{ef1, dominates, isAllocation}
 use Rattle.model.specs.Algorithm.{State, lacking, opening, after, Ends}
-use Rattle.model.specs.Record.{Move, movesIn, moveSize, recordOf, played, Hands, moveAt}
+use Rattle.model.specs.Record.{Move, movesIn, moveSize, recordOf, moveIn, played, Hands, moveAt}
 use Rattle.model.specs.Refusals.{sheetRefusal, allocateRefusal, recordedRefusal, joinRefusal, showRefusal, lookupRefusal, bookRefusal}
 use Rattle.model.specs.Replies.{Reply, refused, shared, joined, absent, holds, wasteful, accepted, shareOutReply, joinReply, listReply, priceReply, replyAt}
 use Rattle.model.specs.Verdicts.{unlessRefused, listCheck, priceCheck}
@@ -103,6 +103,8 @@ pub record RunMoves (s : List ℕ) (moves : List Move) : Type 0 where
 pub record Written (moves : List Move) (bytes bytes′ : List ℕ) : Type 0 where
   pub first : take (moveSize * length moves) bytes′ ≡ recordOf moves
   pub rest : drop (moveSize * length moves) bytes′ ≡ drop (moveSize * length moves) bytes
+  -- read back, the bytes are these moves: what is said of them (`Leads`) is said of the record
+  pub again : (k : ℕ) → k < length moves → moveIn bytes′ k ≡ moveAt moves k
 
 -- The share-out with a record of its moves: `allocate_recorded(sheet, owners, prices, scratch, record)`.
 pub record Recorded (s owners prices scratch bytes owners′ prices′ scratch′ bytes′ : List ℕ) (r : ShareOut) : Type 0 where

@@ -15,6 +15,7 @@ use Rattle.model.specs.MostMoves.{mostMoves}
 use Rattle.model.specs.Refusals.{recordRefusal, recordedRefusal}
 use Rattle.model.specs.Replies.{refused}
 use Rattle.model.specs.Promises.{Written, Recorded}
+use Rattle.model.proofs.Record.{read-back}
 use Rattle.model.proofs.Unique.{unique}
 use Rattle.records.specs.Noted.{Holding}
 use Rattle.records.proofs.Bytes.{record-length}
@@ -51,6 +52,7 @@ written {moves} {lent} {bytes} h H =
     record {
       first = rw is (take-at (recordOf moves) rest _ (record-length moves));
       rest = rw is (drop-at (recordOf moves) rest _ (record-length moves));
+      again = λ k l. rw is (read-back moves rest k l);
     }
 
 abbrev refusal : List ℕ → List ℕ → List ℕ → List ℕ → List ℕ → ℕ
