@@ -18,10 +18,10 @@
  * An owner list has one byte per chore, the number of the agent who does it. A
  * price list has four bytes per chore.
  *
- * Scratch is bytes that a share-out works in. While it runs they hold a distance
- * and a place in line for each agent, and nothing else; what they held before
- * makes no difference. All of them end as zeros, however many there are. A refused
- * call leaves them as they were.
+ * Scratch is bytes that a share-out works in. While it runs the first 64 hold a
+ * distance and a place in line for each agent, and nothing else is put there; what
+ * they held before makes no difference. All of them end as zeros, however many
+ * there are. A refused call leaves them as they were.
  *
  * What a caller owes: every list passes as a pointer and its length in bytes,
  * with that many bytes behind the pointer. A list of length 0 may be NULL, and
