@@ -80,7 +80,8 @@ same-length-4 c = search needs
 returns : tie.Need-returns
 returns c =
     let cleared = c .before .before in
-    let ran = cleared .before .before .before .before .before .before .before .before .before .before in
+    let back = cleared .before .before .before .before .before in
+    let ran = back .before .before .before .before .before in
     let read = ran .before .before .before .before .before in
     let scratch = start read .args .scratch .now in
     let same : length (ran .share .last .1 .1 .1 .0 ++ drop (scratchSize - 0) scratch) ≡ length scratch = search needs in

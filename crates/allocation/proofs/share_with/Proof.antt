@@ -4,9 +4,9 @@ use Rattle.allocation.proofs.Sharing.{opening-of, kit-of, begins}
 use Rattle.allocation.proofs.share_with.Statement.{statement}
 use Rattle.allocation.proofs.share_with.Tie as tie
 
--- from the second call back to the start
-abbrev start : tie.After-chores → tie.Start
-start c = c .before .before .before .before .before .before .before .before .before .before
+-- from the first call back to the start
+abbrev start : tie.After-agents → tie.Start
+start c = c .before .before .before .before .before .before .before .before .before
 
 agents-requires : tie.Need-agents-requires
 agents-requires c κs = search needs
@@ -17,13 +17,14 @@ chores-requires c κs = search needs
 open-requires : tie.Need-open-requires
 open-requires c κs =
     let read = c .before .before .before in
-    let pre = start read .pre .0 in
+    let pre = start (read .before) .pre .0 in
     opening-of (pre .0) (pre .1) (read .before .agents .ensures .is) (read .chores .ensures .is)
 
 run-requires : tie.Need-run-requires
 run-requires c κs =
-    let opened = c .before .before .before .before .before .before .before .before .before .before .before .before .before in
-    let begun = start (opened .before .before .before .before) in
+    let left = c .before .before .before .before .before .before .before .before in
+    let opened = left .before .before .before .before .before in
+    let begun = start (opened .before .before .before .before .before) in
     let pre = begun .pre .0 in
     let running = begins (pre .0) (pre .1) (opened .«open» .ensures) (begun .args .«record» .now) in
     ((kit-of (pre .0) (pre .1) (opened .«open» .ensures), running), begun .pre .1)
@@ -51,7 +52,8 @@ same-length-7 c = search needs
 
 returns : tie.Need-returns
 returns c =
-    let ended = c .before .before .before .before .before .before .before .before .before .before .before .before in
+    let groups = c .before .before .before .before .before .before .before in
+    let ended = groups .before .before .before .before .before in
     record { groups = _; entitled = _; ended = ended .run .ensures }
 
 pub share-with-spec : {M : Type 1} → statement M

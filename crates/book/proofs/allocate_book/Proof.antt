@@ -50,8 +50,9 @@ same-length-3 c = search needs
 
 returns-2 : tie.Need-returns-2
 returns-2 c =
-    let at = c .before .before .before .before .before .before .before .before .before .before .before .before .before .before .before in
-    book-shared _ _ _ _ (judged at .book-refusal .ensures) (fine at .if1 .left) (at .clear .ensures) (c .before .before .before .before .before .before .before .share-sheets .ensures)
+    let shared = c .before .before .before .before .before .before .before in
+    let at = shared .before .before .before .before .before .before .before .before in
+    book-shared _ _ _ _ (judged at .book-refusal .ensures) (fine at .if1 .left) (at .clear .ensures) (shared .share-sheets .ensures)
 
 pub allocate-book-spec : {M : Type 1} → statement M
 allocate-book-spec =

@@ -71,8 +71,9 @@ same-length-4 c = search needs
 
 returns : tie.Need-returns
 returns c =
-    let at = c .before .before .before .before .before .before .before .before .before .before .before .before in
-    rest-shared (start at .pre) (at .allocate .ensures) (c .before .before .before .before .before .entries .ensures) (at .allocate .kept .1 .1 .0) (c .before .before .write-prices .ensures)
+    let counted = c .before .before .before .before .before in
+    let at = counted .before .before .before .before .before .before .before in
+    rest-shared (start at .pre) (at .allocate .ensures) (counted .entries .ensures) (at .allocate .kept .1 .1 .0) (c .before .before .write-prices .ensures)
 
 pub share-rest-spec : {M : Type 1} → statement M
 share-rest-spec =

@@ -15,10 +15,10 @@ abbrev shared : tie.After-slice-known7 → tie.After-allocate-recorded
 shared c = c .before .before .before .before
 
 abbrev counted : tie.After-slice-known7 → tie.After-lent-for
-counted c = c .before .before .before .before .before .before .before .before .before
+counted c = shared c .before .before .before .before .before
 
 abbrev start : tie.After-slice-known7 → tie.Start
-start c = c .before .before .before .before .before .before .before .before .before .before .before .before .before .before .before .before
+start c = counted c .before .before .before .before .before .before .before
 
 lent : (c : tie.After-slice-known7) → let all = start c .args .lent .now in let k = counted c .lent-for .result in Lent (start c .args .prices .now) (take k all) (shared c .allocate-recorded .last .1 .1 .0) (drop k all)
 lent c =
@@ -64,8 +64,9 @@ same-length-5 c = search needs
 
 returns : tie.Need-returns
 returns c =
-    let back = c .before .before .before .before .before .before .before .before .before .before .before in
-    recorded-in-c (lent back) (shared back .allocate-recorded .ensures) (c .before .before .told-out .ensures)
+    let told = c .before .before in
+    let back = told .before .before .before .before .before .before .before .before .before in
+    recorded-in-c (lent back) (shared back .allocate-recorded .ensures) (told .told-out .ensures)
 
 pub allocate-recorded-with-spec : {M : Type 1} → statement M
 allocate-recorded-with-spec =

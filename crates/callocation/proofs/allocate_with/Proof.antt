@@ -15,10 +15,10 @@ abbrev shared : tie.After-slice-known6 → tie.After-allocate
 shared c = c .before .before .before .before
 
 abbrev counted : tie.After-slice-known6 → tie.After-lent-for
-counted c = c .before .before .before .before .before .before .before .before
+counted c = shared c .before .before .before .before
 
 abbrev start : tie.After-slice-known6 → tie.Start
-start c = c .before .before .before .before .before .before .before .before .before .before .before .before .before .before
+start c = counted c .before .before .before .before .before .before
 
 lent : (c : tie.After-slice-known6) → let all = start c .args .lent .now in let k = counted c .lent-for .result in Lent (start c .args .prices .now) (take k all) (shared c .allocate .last .1 .1 .0) (drop k all)
 lent c =
@@ -61,8 +61,9 @@ same-length-4 c = search needs
 
 returns : tie.Need-returns
 returns c =
-    let back = c .before .before .before .before .before .before .before .before .before in
-    told-in-c (lent back) (shared back .allocate .ensures) (c .before .before .told-out .ensures)
+    let told = c .before .before in
+    let back = told .before .before .before .before .before .before .before in
+    told-in-c (lent back) (shared back .allocate .ensures) (told .told-out .ensures)
 
 pub allocate-with-spec : {M : Type 1} → statement M
 allocate-with-spec =

@@ -6,20 +6,20 @@ use Rattle.cresults.proofs.tell.Statement.{statement}
 use Rattle.cresults.proofs.tell.Tie as tie
 
 -- back from where the sheets are told: to the copy of each list, to the start
-abbrev refusals : tie.After-f → tie.After-bytes-of
-refusals c = c .before .before .before .before .before .before .before .before .before .before .before
-
-abbrev moves : tie.After-f → tie.After-counts-of
-moves c = c .before .before .before .before .before .before .before .before .before
-
-abbrev cuts : tie.After-f → tie.After-bytes-of2
-cuts c = c .before .before .before .before .before .before .before
-
 abbrev firsts : tie.After-f → tie.After-words-of
 firsts c = c .before .before .before .before .before
 
+abbrev cuts : tie.After-f → tie.After-bytes-of2
+cuts c = firsts c .before .before
+
+abbrev moves : tie.After-f → tie.After-counts-of
+moves c = cuts c .before .before
+
+abbrev refusals : tie.After-f → tie.After-bytes-of
+refusals c = moves c .before .before
+
 abbrev start : tie.After-f → tie.Start
-start c = c .before .before .before .before .before .before .before .before .before .before .before .before .before
+start c = refusals c .before .before
 
 bytes-of-requires : tie.Need-bytes-of-requires
 bytes-of-requires c κs = search needs

@@ -13,15 +13,19 @@ use Rattle.listcheck.proofs.Answers.{fine-given, fine-room, check-refus
 use Rattle.listcheck.proofs.check_list.Statement.{statement}
 use Rattle.listcheck.proofs.check_list.Tie as tie
 
+-- back from the test of the refusal number to the start
+abbrev start : tie.Else1 → tie.Start
+start c = c .before .before .before .before .before
+
 -- what is known once the call is not turned down
-fine : (c : tie.Else1) → listRefusal (c .before .before .before .before .before .args .sheet .now) (c .before .before .before .before .before .args .owners .now) (length (c .before .before .before .before .before .args .dominating .now)) ≡ 0
+fine : (c : tie.Else1) → let args = start c .args in listRefusal (args .sheet .now) (args .owners .now) (length (args .dominating .now)) ≡ 0
 fine c = sym (c .before .list-refusal .ensures) ∙ c .if1 .left
 
-known : (c : tie.After-chores) → Given (c .before .before .before .before .before .before .before .args .sheet .now) (c .before .before .before .before .before .before .before .args .owners .now) (c .before .agents .result) (c .chores .result)
+known : (c : tie.After-chores) → let args = start (c .before .before) .args in Given (args .sheet .now) (args .owners .now) (c .before .agents .result) (c .chores .result)
 known c =
     fine-given _ _ _ (fine (c .before .before)) (c .before .agents .ensures .is) (c .chores .ensures .is)
 
-pair : (c : tie.After-first-envied) → FirstPair (c .before .before .before .before .agents .result) (envies (asMarked (c .before .before .before .before .before .before .before .before .before .before .args .sheet .now)) (ownerOf (c .before .before .before .before .before .before .before .before .before .before .args .owners .now))) (c .before .before .first-envier .result) (c .first-envied .result)
+pair : (c : tie.After-first-envied) → let args = start (c .before .before .before .before .before) .args in FirstPair (c .before .before .before .before .agents .result) (envies (asMarked (args .sheet .now)) (ownerOf (args .owners .now))) (c .before .before .first-envier .result) (c .first-envied .result)
 pair c =
     envious-pair (known (c .before .before .before)) (c .before .before .first-envier .ensures) (c .before .if2 .taken) (c .first-envied .ensures)
 

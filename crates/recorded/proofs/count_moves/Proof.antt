@@ -47,7 +47,8 @@ share-requires c κs = (search needs, sym (c .before .before .before .before .no
 returns : tie.Need-returns
 returns c =
     let ran = c .before .before .before .before in
-    let start = ran .before .before .before .before .before .before .before .before .before .before in
+    let lent = ran .before .before .before .before .before in
+    let start = lent .before .before .before .before .before in
     counts-them (start .pre) (ran .share .ensures)
 
 pub count-moves-spec : {M : Type 1} → statement M

@@ -13,7 +13,10 @@ note-requires : tie.Need-note-requires
 note-requires c κs = let pre = c .before .before .before .before .before .before .before .pre in pre .numbers _ _ _ (c .before .before .turn .given .1)
 
 add-at : tie.Need-add-at
-add-at c = let pre = c .before .before .before .before .before .before .before .before .before .before .before .pre in record { fits = omega (arith, pre .movesFit) }
+add-at c =
+    let noted = c .before .before .before in
+    let pre = noted .before .before .before .before .before .before .before .before .pre in
+    record { fits = omega (arith, pre .movesFit) }
 
 enum-told : tie.Need-enum-told
 enum-told c = search needs

@@ -37,7 +37,8 @@ slice-aggregate-take-turns-2 c = search needs
 
 take-turns-requires : tie.Need-take-turns-requires
 take-turns-requires c κs =
-    let filled = c .before .before .before .before .before .before .before .before .before .before in
+    let sets = c .before .before .before .before .before .before .before .before in
+    let filled = sets .before .before in
     let pre = start (filled .before .before .before .before .before .before .before .before) .pre in
     (pre .0, (filled .fill-table .ensures, pre .1))
 
@@ -60,7 +61,10 @@ same-length-6 : tie.Need-same-length-6
 same-length-6 c = search needs
 
 returns : tie.Need-returns
-returns c = let ended = c .before .before .before .before .before .before .before .before .before .before .before .before .before .before in ended .take-turns .ensures
+returns c =
+    let entitled = c .before .before .before .before .before .before .before in
+    let ended = entitled .before .before .before .before .before .before .before in
+    ended .take-turns .ensures
 
 pub run-spec : {M : Type 1} → statement M
 run-spec =

@@ -20,9 +20,13 @@ abbrev μ-loop : tie.MeasureT-loop
 μ-loop sheet owners₀ prices₀ groups₀ entitled₀ likes first₀ sets₀ scratch₀ record₀ at₀ owners prices groups entitled first sets scratch «record» at =
     stepNumber (asRead sheet) (stateOf owners prices groups entitled (at .moves) (at .cuts) (at .stage))
 
--- back from the test of a turn to its owners and to the turn, from there to the loop, and to the start
+-- back from the test of a turn by way of its entitled list to its owners and to the turn; from there to the loop, and by way of `likes` to the
+-- start
+abbrev entitledAt : tie.After-slice-known15 Inv-loop μ-loop → tie.After-entitled Inv-loop μ-loop
+entitledAt c = c .before .before .before .before .before .before .before
+
 abbrev ownersAt : tie.After-slice-known15 Inv-loop μ-loop → tie.After-owners Inv-loop μ-loop
-ownersAt c = c .before .before .before .before .before .before .before .before .before .before .before .before .before
+ownersAt c = entitledAt c .before .before .before .before .before .before
 
 abbrev turnAt : tie.After-slice-known15 Inv-loop μ-loop → tie.After-step Inv-loop μ-loop
 turnAt c = ownersAt c .before
@@ -30,17 +34,24 @@ turnAt c = ownersAt c .before
 abbrev loopAt : tie.After-step Inv-loop μ-loop → tie.At-loop Inv-loop μ-loop
 loopAt c = c .before .before .before .before .before .before .before .before
 
+abbrev likesAt : tie.After-begin Inv-loop μ-loop → tie.After-shared-slice-known2 Inv-loop μ-loop
+likesAt c = c .before .before .before .before .before .before
+
+abbrev begun : tie.After-begin Inv-loop μ-loop → tie.Start Inv-loop μ-loop
+begun c = likesAt c .before .before .before .before .before .before
+
 abbrev start : tie.At-loop Inv-loop μ-loop → tie.Start Inv-loop μ-loop
-start c = c .before .before .before .before .before .before .before .before .before .before .before .before .before
+start c = begun (c .before)
 
 begin-requires : tie.Need-begin-requires Inv-loop μ-loop
 begin-requires c κs =
-    let pre = c .before .before .before .before .before .before .before .before .before .before .before .pre .0 in
+    let likes = c .before .before .before .before .before in
+    let pre = likes .before .before .before .before .before .before .pre .0 in
     (pre .0 .valid, groups-sized (pre .0 .valid) (pre .1))
 
 loop-holds : tie.Need-loop-holds Inv-loop μ-loop
 loop-holds c =
-    let pre = c .before .before .before .before .before .before .before .before .before .before .before .before .pre in
+    let pre = begun c .pre in
     (pre .0 .0, begins (c .begin .ensures) (pre .0 .1), pre .1 .0, c .begin .ensures .sees, pre .1 .1)
 
 step-requires : tie.Need-step-requires Inv-loop μ-loop

@@ -11,16 +11,22 @@ use Rattle.steps.proofs.Stepping.{handing, moves-on, passes, cuts-on, s
 use Rattle.steps.proofs.step.Statement.{statement}
 use Rattle.steps.proofs.step.Tie as tie
 
--- back from the tests to what was sought, and to the start
+-- back from the tests to what was sought; from the view through the arguments, by way of `likes`, to the start
 abbrev sought : tie.After-agents → tie.After-seek
 sought c = c .before .before .before
 
+abbrev likesAt : tie.After-view → tie.After-shared-slice-known2
+likesAt c = c .before .before .before .before
+
+abbrev begun : tie.After-view → tie.Start
+begun c = likesAt c .before .before .before .before .before .before
+
 abbrev start : tie.After-seek → tie.Start
-start c = c .before .before .before .before .before .before .before .before .before .before .before .before .before .before .before .before
+start c = begun (c .before .before .before .before .before .before)
 
 seek-requires : tie.Need-seek-requires
 seek-requires c κs =
-    let pre = c .before .before .before .before .before .before .before .before .before .before .before .before .before .before .before .pre in
+    let pre = begun (c .before .before .before .before .before) .pre in
     (looking (pre .1 .0) (pre .0 .ready) (pre .0 .tabled), pre .1 .1)
 
 agents-requires : tie.Need-agents-requires
@@ -85,14 +91,17 @@ returns-2 c =
 
 cut-requires : tie.Need-cut-requires
 cut-requires c κs =
-    let seek = sought (c .before .before .before .before .before .before .before .before .before .before) in
+    let test = c .before .before .before .before .before in
+    let seek = sought (test .before .before .before .before .before) in
     let pre = start seek .pre in
     cutting (pre .0) (seek .seek .ensures .size ∙ pre .1 .1)
 
 fill-table-requires : tie.Need-fill-table-requires
 fill-table-requires c κs =
-    let cut = c .before .before .before .before .before .before .before .before .before .before .before .before in
-    let seek = sought (cut .before .before .before .before .before .before .before .before .before .before .before) in
+    let left = c .before .before .before .before .before .before .before in
+    let cut = left .before .before .before .before .before in
+    let test = cut .before .before .before .before .before .before in
+    let seek = sought (test .before .before .before .before .before) in
     let turning = start seek .pre .0 in
     refilling (filling (turning .ready) (turning .tabled .sized)) (cut .cut .ensures .cut) (ap length (cut .cut .ensures .grouped) ∙ tab-length _ _)
 
@@ -120,7 +129,8 @@ same-length-19 c = search needs
 returns-3 : tie.Need-returns-3
 returns-3 c =
     let filled = c .before .before .before .before in
-    let cut = filled .before .before .before .before .before .before .before .before .before .before .before .before .before in
+    let left = filled .before .before .before .before .before .before .before .before in
+    let cut = left .before .before .before .before .before in
     let test = cut .before .before .before .before .before .before in
     let none = test .before .before .before in
     let seek = sought (none .before .before) in

@@ -30,18 +30,22 @@ add-row-size c = search needs
 row-size-requires : tie.Need-row-size-requires
 row-size-requires c κs = search needs
 
-abbrev start : tie.After-row-size → tie.Start
-start c = c .before .before .before .before .before .before .before .before .before .before .before .before .before
-
+-- back from the row's size to the second row's bytes, to the first's, and to the start
 abbrev moved : tie.After-row-size → tie.After-move-bytes
 moved c = c .before .before .before
+
+abbrev copied : tie.After-row-size → tie.After-copy-bytes
+copied c = moved c .before .before .before .before .before
+
+abbrev start : tie.After-row-size → tie.Start
+start c = copied c .before .before .before .before .before
 
 -- the row is there as far as both have bytes
 written : (c : tie.After-row-size) → Filling (bothRows (start c .args .row1 .now) (start c .args .m1) (start c .args .row2 .now) (start c .args .m2)) (start c .args .joined .now) (start c .args .at) (moved c .move-bytes .last .1 .1 .1 .0) (start c .args .m1 / 8 + length (start c .args .row2 .now))
 written c =
-    let known = c .before .before .before .before .before .before .before .before .before .before .before in
+    let known = copied c .before .before .before in
     row-moved (start c .pre) (moved c .move-bytes .ensures) (moved c .before .before .seam-bits .ensures .is) (λ k. known .shared-slice-known2 .given k .fits)
-    (row-copied (start c .pre) (λ k. known .before .shared-slice-known .given k .fits) (moved c .before .before .before .before .before .copy-bytes .ensures))
+    (row-copied (start c .pre) (λ k. known .before .shared-slice-known .given k .fits) (copied c .copy-bytes .ensures))
 
 moved-byte-requires : tie.Need-moved-byte-requires
 moved-byte-requires c κs = search needs

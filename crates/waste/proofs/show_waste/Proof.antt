@@ -6,6 +6,13 @@ use Rattle.waste.proofs.Tests.{given-on-sheet}
 use Rattle.waste.proofs.show_waste.Statement.{statement}
 use Rattle.waste.proofs.show_waste.Tie as tie
 
+-- back from the search for a wasted chore to the distances, and to the start
+abbrev ringed : tie.After-first-wasted → tie.After-find-distances
+ringed c = c .before .before
+
+abbrev start : tie.After-first-wasted → tie.Start
+start c = ringed c .before .before .before .before .before .before
+
 no-distances-requires : tie.Need-no-distances-requires
 no-distances-requires c κs = search needs
 
@@ -18,27 +25,29 @@ first-wasted-requires c κs = c .before .before .before .before .before .before 
 returns : tie.Need-returns
 returns c =
     record {
-      answer = dominated-none (c .before .before .before .before .before .before .before .before .before .pre .0) (c .before .before .before .find-distances .ensures) (c .before .first-wasted .ensures) (c .if1 .taken);
+      answer = dominated-none (start (c .before) .pre .0) (ringed (c .before) .find-distances .ensures) (c .before .first-wasted .ensures) (c .if1 .taken);
       shown = λ q. absurd (clash q refl);
       kept = λ _. refl;
     }
 
 first-taker-requires : tie.Need-first-taker-requires
-first-taker-requires c κs = given-on-sheet (c .before .before .before .before .before .before .before .before .before .before .pre .0) (c .before .if1 .left)
+first-taker-requires c κs = given-on-sheet (start (c .before .before) .pre .0) (c .before .if1 .left)
 
 write-dominating-requires : tie.Need-write-dominating-requires
 write-dominating-requires c κs =
-    let p = c .before .before .before .before .before .before .before .before .before .before .before .before .before .pre in
-    let rings = c .before .before .before .before .before .before .before .find-distances .ensures in
-    (record { given = p .0; rings = rings; long = p .1 }, wasting (p .0) rings (c .before .before .before .before .before .first-wasted .ensures) (c .before .before .before .before .if1 .left) (c .before .before .first-taker .ensures))
+    let sought = c .before .before .before .before .before in
+    let p = start sought .pre in
+    let rings = ringed sought .find-distances .ensures in
+    (record { given = p .0; rings = rings; long = p .1 }, wasting (p .0) rings (sought .first-wasted .ensures) (c .before .before .before .before .if1 .left) (c .before .before .first-taker .ensures))
 
 same-length : tie.Need-same-length
 same-length c = search needs
 
 returns-2 : tie.Need-returns-2
 returns-2 c =
+    let sought = c .before .before .before .before .before .before .before .before in
     record {
-      answer = dominated-some (c .before .before .before .before .before .before .before .before .before .before .before .before .before .before .before .before .pre .0) (c .before .before .before .before .before .before .before .before .before .before .find-distances .ensures) (c .before .before .before .before .before .before .before .before .first-wasted .ensures) (c .before .before .before .before .before .before .before .if1 .left);
+      answer = dominated-some (start sought .pre .0) (ringed sought .find-distances .ensures) (sought .first-wasted .ensures) (c .before .before .before .before .before .before .before .if1 .left);
       shown = λ _. c .before .before .write-dominating .ensures;
       kept = λ q. absurd (clash refl q);
     }

@@ -21,9 +21,15 @@ Inv-loop n owners prices entitled likes view first₀ sets₀ c₀ first sets c 
 abbrev μ-loop : tie.MeasureT-loop
 μ-loop n owners prices entitled likes view first₀ sets₀ c₀ first sets c = length owners - c
 
--- the loop's way back to the start
+-- back from the loop to the cleared sets, to the cleared rows, and to the start
+abbrev clearedSets : tie.At-loop Inv-loop μ-loop → tie.After-clear-sets Inv-loop μ-loop
+clearedSets c = c .before .before .before
+
+abbrev clearedRows : tie.At-loop Inv-loop μ-loop → tie.After-clear-firsts Inv-loop μ-loop
+clearedRows c = clearedSets c .before .before .before .before
+
 abbrev start : tie.At-loop Inv-loop μ-loop → tie.Start Inv-loop μ-loop
-start c = c .before .before .before .before .before .before .before .before .before .before .before .before .before .before .before
+start c = clearedRows c .before .before .before .before .before .before .before .before
 
 clear-firsts-requires : tie.Need-clear-firsts-requires Inv-loop μ-loop
 clear-firsts-requires c κs =
@@ -31,7 +37,10 @@ clear-firsts-requires c κs =
     (omega (arith, pre .0 .agents, pre .1 .firstSized), omega (arith, pre .0 .agents), omega (arith, pre .0 .chores))
 
 clear-sets-requires : tie.Need-clear-sets-requires Inv-loop μ-loop
-clear-sets-requires c κs = let pre = c .before .before .before .before .before .before .before .before .before .before .before .pre in omega (arith, pre .0 .agents, pre .1 .setsSized)
+clear-sets-requires c κs =
+    let rows = c .before .before .before in
+    let pre = rows .before .before .before .before .before .before .before .before .pre in
+    omega (arith, pre .0 .agents, pre .1 .setsSized)
 
 loop-holds : tie.Need-loop-holds Inv-loop μ-loop
 loop-holds c =
@@ -91,11 +100,12 @@ slice-read-if1-2 c = room (c .before .before .before .before .before .before .be
 
 gain-requires : tie.Need-gain-requires Inv-loop μ-loop
 gain-requires c κs =
-    let turn = c .before .before .before .before .before .before .before .before .before .before in
+    let told = c .before .before .before .before .before in
+    let turn = told .before .before .before .before .before in
     let pre = start (turn .before) .pre .0 in
     let sized = turn .before .loop .inv .1 .sized in
     let few : turn .before .loop .c ≤ maxChores = omega (arith, pre .chores) in (
-      record { firstSized = sized .firstSized; agent = omega (arith, known turn, pre .agents); traits = c .before .before .before .before .before .traits .ensures .below },
+      record { firstSized = sized .firstSized; agent = omega (arith, known turn, pre .agents); traits = told .traits .ensures .below },
       few,
       sized .setsSized,
     )

@@ -13,15 +13,18 @@ use Rattle.firsts.proofs.Handing.{handed-on}
 use Rattle.firsts.proofs.table.hand_on.Statement.{statement}
 use Rattle.firsts.proofs.table.hand_on.Tie as tie
 
--- back from the last call to the loss, to the traits, and to the start
+-- back from the last call to the loss, to the traits, to the giver that is read first, and to the start
 abbrev losing : tie.After-gain → tie.After-lose
 losing c = c .before .before .before .before .before .before .before
 
 abbrev known : tie.After-lose → tie.After-traits
 known c = c .before .before .before .before
 
+abbrev giver : tie.After-traits → tie.After-slice-known4
+giver c = c .before .before .before .before
+
 abbrev start : tie.After-traits → tie.Start
-start c = c .before .before .before .before .before .before .before .before .before .before .before
+start c = giver c .before .before .before .before .before .before .before
 
 slice-read-w : tie.Need-slice-read-w
 slice-read-w c = c .before .before .before .before .before .before .before .pre .2
@@ -45,7 +48,10 @@ mul-traits-2 : tie.Need-mul-traits-2
 mul-traits-2 c = let pre = c .before .before .before .before .before .before .before .before .before .pre in omega (arith, pre .2, pre .0 .chores)
 
 shared-slice-read-traits-3 : tie.Need-shared-slice-read-traits-3
-shared-slice-read-traits-3 c = let pre = c .before .before .before .before .before .before .before .before .before .before .pre in omega (arith, pre .2, pre .0 .likesSized)
+shared-slice-read-traits-3 c =
+    let giver = c .before .before .before in
+    let pre = giver .before .before .before .before .before .before .before .pre in
+    omega (arith, pre .2, pre .0 .likesSized)
 
 traits-requires : tie.Need-traits-requires
 traits-requires c κs = search needs

@@ -39,8 +39,9 @@ take-place-requires c κs =
 
 add-end : tie.Need-add-end Inv-loop μ-loop
 add-end c =
-    let loop = c .before .before .before .before .before .before .before .loop in
-    omega (arith, filled-most (loop .inv .1 .filled), loop .inv .0, c .before .before .before .before .before .before .before .before .before .before .pre .0)
+    let at = c .before .before .before .before .before .before .before in
+    let inv = at .loop .inv in
+    omega (arith, filled-most (inv .1 .filled), inv .0, at .before .before .before .pre .0)
 
 add-i : tie.Need-add-i Inv-loop μ-loop
 add-i c = search needs

@@ -22,8 +22,10 @@ same-length c = search needs
 returns : tie.Need-returns
 unfolding sharedLines
 returns c =
-    let pre = c .before .before .before .before .before .before .before .before .before .before .before .before .before .before .before .pre in
-    put-more (put-then (put-then (c .before .before .before .before .before .before .before .before .before .before .sheet-line .ensures) (c .before .before .before .before .before .before .owners-line .ensures)) (c .before .before .prices-line .ensures)) (omega (arith, pre .ownersFew, pre .pricesFew))
+    let owners = c .before .before .before .before .before .before in
+    let sheet = owners .before .before .before .before in
+    let pre = sheet .before .before .before .before .before .pre in
+    put-more (put-then (put-then (sheet .sheet-line .ensures) (owners .owners-line .ensures)) (c .before .before .prices-line .ensures)) (omega (arith, pre .ownersFew, pre .pricesFew))
 
 pub shared-lines-spec : {M : Type 1} → statement M
 shared-lines-spec =

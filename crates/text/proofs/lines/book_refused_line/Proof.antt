@@ -20,7 +20,9 @@ same-length c = search needs
 
 returns : tie.Need-returns
 unfolding bookRefusedLine
-returns c = put-then (any-field (c .before .before .before .before .before .before .before .before .before .before .fits .refusal .fits) (c .before .before .before .before .before .before .field .ensures)) (c .before .before .end-line .ensures)
+returns c =
+    let only = c .before .before .before .before .before .before in
+    put-then (any-field (only .before .before .before .before .fits .refusal .fits) (only .field .ensures)) (c .before .before .end-line .ensures)
 
 pub book-refused-line-spec : {M : Type 1} → statement M
 book-refused-line-spec =

@@ -32,7 +32,12 @@ same-length c = search needs
 
 returns : tie.Need-returns
 unfolding sheetLine
-returns c = put-then (put-then (put-then (any-field (c .before .before .before .before .before .before .before .before .before .before .before .before .before .before .before .before .before .before .before .before .fits .number .fits) (c .before .before .before .before .before .before .before .before .before .before .before .before .before .before .before .before .field .ensures)) (any-field (c .before .before .before .before .before .before .before .before .before .before .before .before .before .before .before .before .before .before .before .before .fits .moves .fits) (c .before .before .before .before .before .before .before .before .before .before .before .field2 .ensures))) (any-field (c .before .before .before .before .before .before .before .before .before .before .before .before .before .before .before .before .before .before .before .before .fits .cuts .fits) (c .before .before .before .before .before .before .field3 .ensures))) (c .before .before .end-line .ensures)
+returns c =
+    let third = c .before .before .before .before .before .before in
+    let second = third .before .before .before .before .before in
+    let first = second .before .before .before .before .before in
+    let fits = first .before .before .before .before .fits in
+    put-then (put-then (put-then (any-field (fits .number .fits) (first .field .ensures)) (any-field (fits .moves .fits) (second .field2 .ensures))) (any-field (fits .cuts .fits) (third .field3 .ensures))) (c .before .before .end-line .ensures)
 
 pub sheet-line-spec : {M : Type 1} → statement M
 sheet-line-spec =

@@ -26,7 +26,11 @@ same-length c = search needs
 
 returns : tie.Need-returns
 unfolding totalLine
-returns c = put-then (put-then (any-field (c .before .before .before .before .before .before .before .before .before .before .before .before .before .before .before .fits .moves .fits) (c .before .before .before .before .before .before .before .before .before .before .before .field .ensures)) (any-field (c .before .before .before .before .before .before .before .before .before .before .before .before .before .before .before .fits .cuts .fits) (c .before .before .before .before .before .before .field2 .ensures))) (c .before .before .end-line .ensures)
+returns c =
+    let second = c .before .before .before .before .before .before in
+    let first = second .before .before .before .before .before in
+    let fits = first .before .before .before .before .fits in
+    put-then (put-then (any-field (fits .moves .fits) (first .field .ensures)) (any-field (fits .cuts .fits) (second .field2 .ensures))) (c .before .before .end-line .ensures)
 
 pub total-line-spec : {M : Type 1} → statement M
 total-line-spec =

@@ -14,6 +14,16 @@ Inv-loop sheet owners n m distances c j list₀ i h₀ list h = OnTheWay sheet o
 abbrev μ-loop : tie.MeasureT-loop
 μ-loop sheet owners n m distances c j list₀ i h₀ list h = getD distances h 0
 
+-- back from the loop to the copy of the owners, to the owner of the wasted chore, and to the start
+abbrev copied : tie.At-loop Inv-loop μ-loop → tie.After-copy-owners Inv-loop μ-loop
+copied c = c .before .before .before
+
+abbrev owned : tie.At-loop Inv-loop μ-loop → tie.After-owner Inv-loop μ-loop
+owned c = copied c .before .before
+
+abbrev start : tie.At-loop Inv-loop μ-loop → tie.Start Inv-loop μ-loop
+start c = owned c .before .before .before .before
+
 -- the owner of the wasted chore is an agent, as the taker is
 owner : (c : tie.After-owner Inv-loop μ-loop) → c .owner .result < c .before .before .before .before .args .n
 owner c = rw (c .owner .ensures .is) (owner-below (c .before .before .before .before .pre .0 .given) _ (c .before .before .before .before .pre .1 .chore))
@@ -41,13 +51,14 @@ loop-holds c =
 
 element-copy-out-if1 : tie.Need-element-copy-out-if1 Inv-loop μ-loop
 element-copy-out-if1 c =
-    let p = c .before .before .before .before .before .before .before .before .before .pre in
+    let p = start c .pre in
     omega (arith, way-here (p .0 .given) (p .0 .rings) (p .1 .chore) (p .1 .hard) (c .loop .inv), p .0 .given .agents, p .0 .given .valid .agentsFit)
 
 hand-on-requires : tie.Need-hand-on-requires Inv-loop μ-loop
 hand-on-requires c κs =
-    let p = c .before .before .before .before .before .before .before .before .before .before .before .before .pre in
-    let inv = c .before .before .before .loop .inv in
+    let loop = c .before .before .before in
+    let p = start loop .pre in
+    let inv = loop .loop .inv in
     (record { given = p .0 .given; rings = p .0 .rings; long = inv .long }, way-away (p .0 .given) (p .0 .rings) (p .1 .chore) (p .1 .hard) inv (c .before .if1 .taken))
 
 loop-less : tie.Need-loop-less Inv-loop μ-loop
@@ -55,18 +66,20 @@ loop-less c = c .before .before .hand-on .ensures .nearer
 
 loop-again : tie.Need-loop-again Inv-loop μ-loop
 loop-again c =
-    let p = c .before .before .before .before .before .before .before .before .before .before .before .before .before .before .before .pre in
-    way-next (p .0 .given) (p .0 .rings) (p .1 .chore) (p .1 .hard) (c .before .before .before .before .before .before .loop .inv) (c .before .before .hand-on .ensures)
+    let loop = c .before .before .before .before .before .before in
+    let p = start loop .pre in
+    way-next (p .0 .given) (p .0 .rings) (p .1 .chore) (p .1 .hard) (loop .loop .inv) (c .before .before .hand-on .ensures)
 
 relieve-requires : tie.Need-relieve-requires Inv-loop μ-loop
 relieve-requires c κs =
-    let p = c .before .before .before .before .before .before .before .before .before .before .before .before .pre in
-    let inv = c .before .before .before .loop .inv in
+    let loop = c .before .before .before in
+    let p = start loop .pre in
+    let inv = loop .loop .inv in
     let g = p .0 .given in
-    let arrived : getD (c .before .before .before .before .before .before .before .before .before .before .before .before .args .distances .now) (c .before .before .before .loop .h) 0 ≡ 0 = omega (arith, c .before .if1 .left) in
+    let arrived : getD (start loop .args .distances .now) (loop .loop .h) 0 ≡ 0 = omega (arith, c .before .if1 .left) in
     record {
       given = given-agents g;
-      taker = omega (arith, owner (c .before .before .before .before .before .before .before .before), g .agents);
+      taker = omega (arith, owner (owned loop), g .agents);
       here = omega (arith, way-here g (p .0 .rings) (p .1 .chore) (p .1 .hard) inv, g .agents);
       burden = way-burden g (p .0 .rings) (p .1 .chore) (p .1 .hard) inv arrived;
       long = inv .long;
@@ -74,18 +87,20 @@ relieve-requires c κs =
 
 same-length : tie.Need-same-length Inv-loop μ-loop
 same-length c =
-    let old : length (c .before .before .before .before .before .before .loop .list) ≡ length (c .before .before .before .before .before .before .before .before .before .copy-owners .last .1 .0) = c .before .before .before .before .before .before .loop .inv .size ∙ simp length-set in
-    let same : length (c .before .before .relieve .last .1 .1 .1 .1 .1 .0) ≡ length (c .before .before .before .before .before .before .before .before .before .before .before .before .before .before .before .args .list .now) = omega (arith, old, c .before .before .relieve .kept, c .before .before .before .before .before .before .before .before .before .copy-owners .kept) in
+    let loop = c .before .before .before .before .before .before in
+    let old : length (loop .loop .list) ≡ length (copied loop .copy-owners .last .1 .0) = loop .loop .inv .size ∙ simp length-set in
+    let same : length (c .before .before .relieve .last .1 .1 .1 .1 .1 .0) ≡ length (start loop .args .list .now) = omega (arith, old, c .before .before .relieve .kept, copied loop .copy-owners .kept) in
     same
 
 returns : tie.Need-returns Inv-loop μ-loop
 returns c =
-    let p = c .before .before .before .before .before .before .before .before .before .before .before .before .before .before .before .pre in
+    let loop = c .before .before .before .before .before .before in
+    let p = start loop .pre in
     let g = p .0 .given in
-    let inv = c .before .before .before .before .before .before .loop .inv in
-    let arrived : getD (c .before .before .before .before .before .before .before .before .before .before .before .before .before .before .before .args .distances .now) (c .before .before .before .before .before .before .loop .h) 0 ≡ 0 = omega (arith, c .before .before .before .before .if1 .left) in
-    let end = way-end g (p .0 .rings) (p .1 .chore) (p .1 .hard) inv arrived (c .before .before .before .before .before .before .before .before .before .before .before .owner .ensures .is) (c .before .before .relieve .ensures) in
-    shown-dominating (g .chores) (shown-from (copied-kept g (c .before .before .before .before .before .before .before .before .before .copy-owners .ensures) _ _ (p .1 .chore)) end)
+    let inv = loop .loop .inv in
+    let arrived : getD (start loop .args .distances .now) (loop .loop .h) 0 ≡ 0 = omega (arith, c .before .before .before .before .if1 .left) in
+    let end = way-end g (p .0 .rings) (p .1 .chore) (p .1 .hard) inv arrived (owned loop .owner .ensures .is) (c .before .before .relieve .ensures) in
+    shown-dominating (g .chores) (shown-from (copied-kept g (copied loop .copy-owners .ensures) _ _ (p .1 .chore)) end)
 
 pub write-dominating-spec : {M : Type 1} → statement M
 write-dominating-spec =

@@ -64,12 +64,13 @@ same-length c = search needs
 
 returns : tie.Need-returns
 returns c =
-    let call = c .before .before .before .before .before .before .before .before .before .before .before in
+    let text = c .before .before in
+    let call = text .before .before .before .before .before .before .before .before .before in
     let lent = call .before .before .before .before .before in
     let found = lent .before .before .before .before in
     let left = call .allocate-recorded .kept in
     let A = answered (lent .before .before .before .no-owners .ensures) (lent .before .before .no-prices .ensures) (lent .before .no-scratch .ensures) (lent .no-record .ensures) (call .allocate-recorded .ensures) (left .1 .0) (left .1 .1 .0) in
-    let told = c .before .before .answer-text in
+    let told = text .answer-text in
     sheet-shown printer _ (found .sheet-at .ensures) A (told .ensures) (omega (arith, told .kept .1 .1 .1 .1 .1 .1 .0, found .before .before .before .pre .1))
 
 pub sheet-text-spec : {M : Type 1} → statement M
