@@ -1,20 +1,19 @@
 -- Laws of tests packed as the bits of bytes: which bit is which test, how many are set, and whether any is set after the last.
 -- Assumes nothing.
 use Prim.Native.Nat.{ℕ, zero, suc, _+_, _*_, _-_, _/_, _%_, _^_, _≤_, _<_}
-use mathlib.Core.Bool.{Bool, true, false, cond, not, _&&_, _||_}
+use mathlib.Core.Bool.{Bool, true, false, cond, not, _&&_}
 use mathlib.Core.List.{List}
 use mathlib.Core.Path.{_≡_, refl, sym, ap, ap₂, _∙_}
 use native.Mathlib.Nat.{mod-lt, div-one, pow-suc}
-use native.Mathlib.Numerals.{add-one}
 use native.Mathlib.Omega.{arith}
 use lib.Count.{ones, ones-step, ones-ones}
 use lib.Dec.{eqb, ltb}
 use lib.ListN.{length, getD}
-use lib.Pow.{pow-pos, pow-lt, field, mod-mod-pow, shr-lt}
-use borrow.Author.Tests.{eq-eqb, ne-eqb, eqb-true}
+use lib.Pow.{pow-pos, field, mod-mod-pow}
+use borrow.Author.Tests.{eq-eqb, eqb-true}
 use Rattle.finite.specs.Sums.{sumTo, countTo}
 use Rattle.finite.specs.Search.{anyBelow, allBelow}
-use Rattle.finite.specs.Bits.{bit, SetOf}
+use Rattle.finite.specs.Bits.{bit}
 use Rattle.finite.specs.Packed.{bitAt, bytesFor, packBits, packedByte, packed}
 use Rattle.finite.proofs.Tests.{bool-eq}
 use Rattle.finite.proofs.Below.{none-below, by-top}

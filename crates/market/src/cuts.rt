@@ -1,12 +1,11 @@
 // The price cut of step 3.
 ghost use mathlib.Core.Path.{_≡_};
 ghost use mathlib.Core.Bool.{cond};
-ghost use Prim.Native.Nat.{ℕ, _*_, _/_, _≤_, _<_};
+ghost use Prim.Native.Nat.{_*_, _/_, _≤_, _<_};
 ghost use lib.ListN.{length, getD};
 ghost use Rattle.finite.specs.Bits.{bit};
 ghost use Rattle.finite.specs.Lists.{tabulate};
 ghost use Rattle.model.specs.Limits.{maxAgents};
-ghost use Rattle.model.specs.Instance.{ownerOf};
 ghost use Rattle.market.specs.Cutting.{Cutting, CutPrices};
 use crate::words::has;
 

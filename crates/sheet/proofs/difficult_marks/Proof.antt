@@ -1,9 +1,8 @@
 -- `sheet::difficult_marks` meets its contract. The loop's invariant: how many bits of the bytes passed are set.
-use Prim.Native.Nat.{_*_, _-_, _≤_, _<_}
-use mathlib.Core.Path.{_≡_, sym, _∙_}
+use Prim.Native.Nat.{_*_, _-_, _≤_}
+use mathlib.Core.Path.{_≡_, sym}
 use native.Mathlib.Omega.{arith}
 use lib.Count.{ones, ones-le}
-use lib.ListN.{getD}
 use borrow.Author.Needs.{needs}
 use Rattle.finite.specs.Sums.{countTo}
 use Rattle.finite.specs.Packed.{bitAt, bytesFor}
