@@ -13,7 +13,7 @@ use market::words::with;
 use market::words::with_easy;
 
 // The agents whose row is all difficult, which is read as all easy.
-pub fn all_difficult_rows(sheet: &[u8], n: usize, m: usize) -> u32
+fn all_difficult_rows(sheet: &[u8], n: usize, m: usize) -> u32
     requires { ⌜ OpenOn (now sheet) n m ⌝ }
     ensures { λ r. ⌜ SetOf n r (allDifficult (now (sheet .entry))) ⌝ }
 {

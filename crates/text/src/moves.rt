@@ -6,7 +6,7 @@ ghost use Rattle.model.specs.Record.{moveSize};
 ghost use Rattle.text.specs.Put.{Put};
 ghost use Rattle.text.specs.Moves.{numbersLine, moveMost, moveRoom, InBytes, lineAt, PutMoves};
 
-pub fn move_line(
+fn move_line(
     chore: u32,
     giver: u32,
     receiver: u32,
