@@ -5,7 +5,7 @@ use mathlib.Core.List.{List, _++_}
 use mathlib.Core.Path.{_≡_, refl, sym, ap, _∙_}
 use native.Mathlib.Omega.{arith}
 use lib.ListN.{length, take, drop, replicate}
-use lib.Seq.{take-append-seam, drop-append-seam}
+use lib.Seq.{take-at, drop-at}
 use Rattle.finite.proofs.Below.{by-same}
 use Rattle.model.specs.declared.ShareOut.{ShareOut}
 use Rattle.model.specs.Limits.{maxChores, scratchSize}
@@ -53,13 +53,6 @@ sheet-decides s owners prices scratch o p c =
     or-else-next _ z ∙ or-else-none (lent-ok (omega (arith, few))) (or-else-none (lent-ok (omega (arith, few))) (lent-ok c)) ∙ sym z)
     (λ h. or-else-first _ h)
 
--- a list of k entries with another after it
-front : {k : ℕ} (xs ys : List ℕ) → length xs ≡ k → take k (xs ++ ys) ≡ xs
-front xs ys e = ap (λ k. take k (xs ++ ys)) (sym e) ∙ take-append-seam xs ys
-
-back : {k : ℕ} (xs ys : List ℕ) → length xs ≡ k → drop k (xs ++ ys) ≡ ys
-back xs ys e = ap (λ k. drop k (xs ++ ys)) (sym e) ∙ drop-append-seam xs ys
-
 module _ {s owners prices scratch : List ℕ} where
   pub refused-kept : {k : ℕ} → k ≡ allocateRefusal s (length owners) (length prices) (length scratch) → (k ≡ 0 → ⊥) → Allocated s owners prices scratch owners prices scratch (ShareOut.Refused k)
   refused-kept e h =
@@ -83,10 +76,10 @@ module _ {s owners prices scratch : List ℕ} where
                 demand3 = demand3-of s (fine .unbroken) _ (R .ended .ends);
                 few = few-of s (fine .unbroken) _ (R .ended .ends);
                 answer = refl;
-                ownersWritten = front x _ (shape .owners);
-                ownersKept = back x _ (shape .owners) ∙ ap (λ i. drop i owners) from;
-                pricesWritten = front p _ (shape .prices);
-                pricesKept = back p _ (shape .prices) ∙ ap (λ i. drop i prices) from;
+                ownersWritten = take-at x _ _ (shape .owners);
+                ownersKept = drop-at x _ _ (shape .owners) ∙ ap (λ i. drop i owners) from;
+                pricesWritten = take-at p _ _ (shape .prices);
+                pricesKept = drop-at p _ _ (shape .prices) ∙ ap (λ i. drop i prices) from;
                 zeros = zeros;
               };
           turnedDown = λ n. absurd (n e);

@@ -1,7 +1,7 @@
 -- Laws of bits of a word, and of sets of numbers as words.
 -- Assumes nothing.
 use Prim.Native.Nat.{ℕ, zero, suc, _+_, _-_, _*_, _/_, _%_, _^_, _≤_, _<_, min, max}
-use mathlib.Core.Bool.{Bool, true, false, cond, not, _&&_, _||_, true≢false, false≢true}
+use mathlib.Core.Bool.{Bool, true, false, cond, not, _&&_, _||_, true≢false, false≢true, or-false}
 use mathlib.Core.Path.{_≡_, refl, sym, ap, ap₂, _∙_}
 use native.Mathlib.Nat.{le-refl, lt-of-le-of-lt, lt-of-lt-of-le, div-eq-of-lt, div-self, zero-div, div-one, div-div-eq-div-mul, mul-comm, mod-lt, mod-eq-of-lt, mul-add-mod-self-right, mul-mod-left, one-mul, pow-suc, mul-div-cancel}
 use native.Mathlib.Numerals.{add-one}
@@ -12,7 +12,7 @@ use lib.Dec.{eqb}
 use borrow.Author.Tests.{eq-eqb, ne-eqb}
 use Rattle.finite.specs.Bits.{bit, SetOf}
 use Rattle.finite.specs.Search.{anyBelow}
-use Rattle.finite.proofs.Tests.{not-no, or-right, or-false}
+use Rattle.finite.proofs.Tests.{not-no, or-right}
 use Rattle.finite.proofs.Below.{none-below, by-top, by-less, by-same}
 use Rattle.finite.proofs.Search.{any-none, any-none-intro}
 

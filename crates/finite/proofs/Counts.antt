@@ -60,10 +60,3 @@ pub where-const : (n b : ℕ) (t : ℕ → Bool) → sumWhere n t (λ c. b) ≡ 
 unfolding countTo sumWhere
 where-const n b t =
     where-value n t {f = λ c. b} {g = λ c. b * 1} (λ c l p. sym (mul-one b)) ∙ where-scale n b t (λ c. 1) ∙ mul-comm b _
-
--- some number below n fails the first test and passes the second
-pub record Apart (n : ℕ) (t u : ℕ → Bool) : Type 0 where
-  pub index : ℕ
-  pub below : index < n
-  pub fails : t index ≡ false
-  pub passes : u index ≡ true

@@ -12,7 +12,7 @@ use lib.Pow.{pow-mono}
 use borrow.Author.Tests.{eqb-true, ne-eqb}
 use Rattle.finite.specs.Bits.{bit, SetOf}
 use Rattle.finite.specs.Search.{firstBelow}
-use Rattle.finite.proofs.Tests.{clash, and-elim, and-no-left, and-no-right, or-right, eqb-same}
+use Rattle.finite.proofs.Tests.{clash, and-elim, and-no-left, and-no-right, and-keep, or-right, eqb-same}
 use Rattle.finite.proofs.Below.{none-below, by-less, by-same}
 use Rattle.finite.proofs.Search.{first-unique, first-none-intro}
 use Rattle.finite.proofs.Bits.{bit-zero, bit-above, bit-half, half-lt, shift-one, set-none, set-cong, set-insert}
@@ -88,9 +88,6 @@ module _ (w t : ℕ) (h : bit w t ≡ true) where
   set-bit-le = by-less w (2 ^ t) (λ m. absurd (clash h (bit-above m (le-refl t)))) (λ m. m)
 
 -- the word without one of its bits has the others
-
-and-keep : (a : Bool) {b : Bool} → b ≡ false → a && not b ≡ a
-and-keep a e = ap (λ b. a && not b) e ∙ and-true a
 
 halves : (v w i : ℕ) → v / 2 ≡ w / 2 → bit v (suc i) ≡ bit w (suc i)
 halves v w i e = sym (bit-half v i) ∙ ap (λ x. bit x i) e ∙ bit-half w i

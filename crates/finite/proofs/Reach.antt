@@ -84,15 +84,3 @@ module _ (n : ℕ) (start : ℕ → Bool) (link : ℕ → ℕ → Bool) where
   -- a place linked to one that n rounds reach is reached by them too
   pub reach-link : (i j : ℕ) → i < n → j < n → reach n start link n j ≡ true → link i j ≡ true → reach n start link n i ≡ true
   reach-link i j l k h e = reach-closed i l (reach-step n i j k h e)
-
-  -- a property of the starts that links carry holds wherever any number of rounds reaches
-  pub reach-ind {ℓ} : (P : ℕ → Type ℓ) → ((i : ℕ) → i < n → start i ≡ true → P i) → ((i j : ℕ) → i < n → j < n → P j → link i j ≡ true → P i) → (t i : ℕ) → i < n → reach n start link t i ≡ true → P i
-  unfolding reach
-  reach-ind P base carry zero i l h = base i l h
-  reach-ind P base carry (suc t) i l h =
-      reach-cases t i h (reach-ind P base carry t i l)
-      (λ v. carry i (v .next) l (v .below) (reach-ind P base carry t (v .next) (v .below) (v .reached)) (v .linked))
-
-  -- n rounds reach all that any number of rounds does
-  pub reach-all : (t i : ℕ) → i < n → reach n start link t i ≡ true → reach n start link n i ≡ true
-  reach-all = reach-ind (λ i. reach n start link n i ≡ true) (λ i l. reach-start n i) reach-link

@@ -97,10 +97,6 @@ sum-less (suc k) f g h =
     let r = sum-less k f g (omega arith) in
     record { index = r .index; below = omega arith; less = r .less }
 
--- more than b each on the whole: some point is above b
-pub sum-above : (n b : ℕ) (f : ℕ → ℕ) → n * b < sumTo n f → Less n (λ c. b) f
-sum-above n b f h = sum-less n (λ c. b) f (rw (sum-const n b) h)
-
 pub sum-swap : (n m : ℕ) (f : ℕ → ℕ → ℕ) → sumTo n (λ i. sumTo m (λ c. f i c)) ≡ sumTo m (λ c. sumTo n (λ i. f i c))
 unfolding sumTo
 sum-swap zero m f = sym (sum-none m (λ c l. refl))

@@ -1,7 +1,7 @@
 -- Laws of Boolean tests: cases with the equation kept, and, or, not, comparisons, cond.
 -- Assumes nothing.
 use Prim.Native.Nat.{ℕ, suc, _*_, _≤_, _<_, zero-le}
-use mathlib.Core.Bool.{Bool, true, false, cond, not, _&&_, _||_, true≢false, false≢true}
+use mathlib.Core.Bool.{Bool, true, false, cond, not, _&&_, _||_, true≢false, false≢true, and-true}
 use mathlib.Core.Path.{_≡_, refl, sym, _∙_}
 use native.Mathlib.Nat.{mul-zero, mul-le-mul-left, mul-lt-mul-of-pos-left, le-of-mul-le-mul-left, lt-of-mul-lt-mul-left}
 use native.Mathlib.Omega.{arith}
@@ -63,15 +63,10 @@ pub and-no-right : (a : Bool) {b : Bool} → b ≡ false → a && b ≡ false
 and-no-right true h = h
 and-no-right false h = refl
 
-pub and-true : (b : Bool) → b && true ≡ b
-and-true true = refl
-and-true false = refl
+pub and-keep : (a : Bool) {b : Bool} → b ≡ false → a && not b ≡ a
+and-keep a h = rw h (and-true a)
 
 -- or
-
-pub or-false : (b : Bool) → b || false ≡ b
-or-false true = refl
-or-false false = refl
 
 pub or-cases {ℓ} : {A : Type ℓ} (a b : Bool) → a || b ≡ true → (a ≡ true → A) → (b ≡ true → A) → A
 or-cases true b e left right = left refl
@@ -102,10 +97,6 @@ not-on h = rw h
 
 pub not-off : {b : Bool} → b ≡ true → not b ≡ false
 not-off h = rw h
-
-pub not-not : (b : Bool) → not (not b) ≡ b
-not-not true = refl
-not-not false = refl
 
 -- equality of numbers as a test
 

@@ -8,7 +8,7 @@ use native.Mathlib.Omega.{arith}
 use lib.Dec.{eqb}
 use borrow.Author.Tests.{ne-eqb}
 use Rattle.finite.specs.Sums.{sumTo, sumWhere, maxWhere}
-use Rattle.finite.proofs.Tests.{by-test, clash, cond-true, cond-false, cond-cong, cond-mono, cond-scale, cond-same, and-no-right, not-on, not-off, eqb-same}
+use Rattle.finite.proofs.Tests.{by-test, clash, cond-true, cond-false, cond-cong, cond-mono, cond-scale, cond-same, and-no-right, and-keep, not-off, eqb-same}
 use Rattle.finite.proofs.Sums.{sum-next, sum-cong, sum-mono, sum-strict, sum-add, sum-scale, sum-none, sum-change, sum-single, sum-point, sum-less, sum-split}
 use Rattle.finite.proofs.Extremes.{peak-at-most}
 
@@ -126,11 +126,7 @@ where-change {n} t u f k l p q h =
 -- one point taken off
 pub where-off : {n : ℕ} (t : ℕ → Bool) (f : ℕ → ℕ) (k : ℕ) → k < n → t k ≡ true → sumWhere n (λ c. t c && not (eqb c k)) f + f k ≡ sumWhere n t f
 where-off t f k l p =
-    sym (where-change (λ c. t c && not (eqb c k)) t f k l (and-no-right (t k) (not-off (eqb-same k))) p (λ c m ne. off (t c) (ne-eqb c k ne)))
-  where
-    off : (a : Bool) {b : Bool} → b ≡ false → a && not b ≡ a
-    off true e = not-on e
-    off false e = refl
+    sym (where-change (λ c. t c && not (eqb c k)) t f k l (and-no-right (t k) (not-off (eqb-same k))) p (λ c m ne. and-keep (t c) (ne-eqb c k ne)))
 
 -- only one point passes
 pub where-single : {n : ℕ} (t : ℕ → Bool) (f : ℕ → ℕ) (k : ℕ) → k < n → t k ≡ true → ((c : ℕ) → c < n → (c ≡ k → ⊥) → t c ≡ false) → sumWhere n t f ≡ f k

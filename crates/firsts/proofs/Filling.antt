@@ -1,7 +1,7 @@
 -- The table, one chore further.
 -- Assumes nothing.
 use Prim.Native.Nat.{ℕ, _+_, _*_, _≤_, _<_}
-use mathlib.Core.Bool.{Bool, false, _&&_, _||_}
+use mathlib.Core.Bool.{Bool, false, _&&_, _||_, or-false}
 use mathlib.Core.List.{List}
 use mathlib.Core.Path.{_≡_, sym, ap, _∙_}
 use native.Mathlib.Omega.{arith}
@@ -10,7 +10,7 @@ use lib.Dec.{eqb, ltb}
 use lib.ListN.{getD}
 use borrow.Author.Tests.{eq-eqb, ne-eqb, lt-ltb, le-ltb}
 use Rattle.finite.specs.Bits.{SetOf}
-use Rattle.finite.proofs.Tests.{and-intro, and-no-left, and-no-right, or-right, or-false, eqb-same}
+use Rattle.finite.proofs.Tests.{and-intro, and-no-left, and-no-right, or-right, eqb-same}
 use Rattle.finite.proofs.Below.{by-less, by-same}
 use Rattle.finite.proofs.Bits.{set-cong, set-none}
 use Rattle.finite.proofs.Search.{any-none-intro, first-none-intro}

@@ -1,7 +1,7 @@
 -- The table where a chore has gone from its owner to another agent.
 -- Assumes nothing.
 use Prim.Native.Nat.{ℕ, _+_, _-_, _*_, _<_}
-use mathlib.Core.Bool.{Bool, false, not, _&&_, _||_}
+use mathlib.Core.Bool.{Bool, false, not, _&&_, _||_, and-true, or-false}
 use mathlib.Core.List.{List}
 use mathlib.Core.Path.{_≡_, refl, sym, ap, _∙_}
 use native.Mathlib.Omega.{arith}
@@ -10,7 +10,7 @@ use lib.ListN.{length, set}
 use lib.Seq.{getD-set-same, getD-set-other}
 use borrow.Author.Tests.{eq-eqb, ne-eqb}
 use Rattle.finite.specs.Bits.{SetOf}
-use Rattle.finite.proofs.Tests.{and-no-left, and-no-right, and-true, or-right, or-false, not-off, eqb-same}
+use Rattle.finite.proofs.Tests.{and-no-left, and-no-right, or-right, not-off, eqb-same}
 use Rattle.finite.proofs.Below.{by-less, by-same}
 use Rattle.model.specs.Limits.{maxAgents}
 use Rattle.model.specs.Instance.{ownerOf}

@@ -1,13 +1,13 @@
 -- Laws of the first of some chores that has a trait: where one chore more, or one less, is held.
 -- Assumes nothing.
 use Prim.Native.Nat.{ℕ, _≤_, _<_}
-use mathlib.Core.Bool.{Bool, true, false, not, _&&_, _||_}
+use mathlib.Core.Bool.{Bool, true, false, not, _&&_, _||_, and-true, or-false}
 use mathlib.Core.Path.{_≡_, sym, ap, _∙_}
 use native.Mathlib.Omega.{arith}
 use lib.Dec.{eqb, ltb}
 use borrow.Author.Tests.{ne-eqb, lt-ltb, le-ltb}
 use Rattle.finite.specs.Search.{anyBelow, firstBelow}
-use Rattle.finite.proofs.Tests.{by-test, and-intro, and-no-left, and-no-right, and-true, or-right, or-false, not-off, eqb-same}
+use Rattle.finite.proofs.Tests.{by-test, and-intro, and-no-left, and-no-right, or-right, not-off, eqb-same}
 use Rattle.finite.proofs.Below.{by-less, by-same}
 use Rattle.finite.proofs.Search.{any-intro, any-cong, first-before, first-passes, first-unique}
 

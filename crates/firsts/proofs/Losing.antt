@@ -1,7 +1,7 @@
 -- An agent's row without a chore: of the traits of which that chore was the first, the first after it.
 -- Assumes nothing.
 use Prim.Native.Nat.{ℕ, _+_, _*_, _<_}
-use mathlib.Core.Bool.{Bool, true, false, cond, not, _&&_}
+use mathlib.Core.Bool.{Bool, true, false, cond, not, _&&_, and-true, Bool·not-not}
 use mathlib.Core.List.{List}
 use mathlib.Core.Path.{_≡_, refl, sym, ap, ap₂, _∙_}
 use native.Mathlib.Omega.{arith}
@@ -12,7 +12,7 @@ use lib.Seq.{getD-set-same, getD-set-other}
 use borrow.Author.Tests.{ne-eqb, ltb-false, leb-true, leb-false}
 use Rattle.finite.specs.Bits.{bit, SetOf}
 use Rattle.finite.specs.Search.{anyBelow, firstBelow}
-use Rattle.finite.proofs.Tests.{by-test, cond-true, cond-false, and-elim, and-intro, and-cases, and-no-left, and-true, not-not, eqb-same}
+use Rattle.finite.proofs.Tests.{by-test, cond-true, cond-false, and-elim, and-intro, and-cases, and-no-left, eqb-same}
 use Rattle.finite.proofs.Bits.{set-cong, set-off}
 use Rattle.finite.proofs.Search.{any-intro, any-first, first-cong, first-le}
 use Rattle.model.specs.Limits.{maxAgents}
@@ -83,7 +83,7 @@ module _ {m w c word missing left : ℕ} {x : ℕ → ℕ} {trait : ℕ → ℕ 
     some-without t l =
         let r = after t in
         by-test (bit missing t)
-        (λ h. rw (h, had t l h) (not-not (ltb r m) ∙ ap (λ n. ltb n m) (sym (first-without t l ∙ cond-true r (firstBelow m (held t)) h))))
+        (λ h. rw (h, had t l h) (Bool·not-not (ltb r m) ∙ ap (λ n. ltb n m) (sym (first-without t l ∙ cond-true r (firstBelow m (held t)) h))))
         (λ h. rw h (and-true (anyBelow m (held t)) ∙ any-first m (held t) ∙ ap (λ n. ltb n m) (sym (first-without t l ∙ cond-false r (firstBelow m (held t)) h))))
         ∙ sym (any-first m (others t))
 

@@ -1,7 +1,7 @@
 -- The search for the next chores with the missing traits, one chore further.
 -- Assumes nothing.
 use Prim.Native.Nat.{ℕ, suc, _+_, _*_, _^_, _≤_, _<_}
-use mathlib.Core.Bool.{Bool, true, false, cond, not, _&&_, _||_}
+use mathlib.Core.Bool.{Bool, true, false, cond, not, _&&_, _||_, and-true}
 use mathlib.Core.List.{List}
 use mathlib.Core.Path.{_≡_, refl, sym, ap, ap₂, _∙_}
 use native.Mathlib.Omega.{arith}
@@ -11,7 +11,7 @@ use lib.ListN.{length, getD}
 use borrow.Author.Tests.{ltb-true, lt-ltb, le-ltb, not-false}
 use Rattle.finite.specs.Bits.{bit, SetOf}
 use Rattle.finite.specs.Search.{firstStep, firstBelow}
-use Rattle.finite.proofs.Tests.{by-test, cond-false, and-elim, and-no-left, and-no-right, and-rest, and-true, not-on}
+use Rattle.finite.proofs.Tests.{by-test, cond-false, and-elim, and-no-left, and-no-right, and-rest, not-on}
 use Rattle.finite.proofs.Bits.{set-cong, set-and, set-off, set-empty}
 use Rattle.finite.proofs.Search.{first-next, first-none-intro, first-on}
 use Rattle.model.specs.Limits.{maxAgents}

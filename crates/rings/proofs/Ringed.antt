@@ -1,7 +1,7 @@
 -- The search of 2b over its line: from the start on, one agent and one ring further, and what it has found where it ends.
 -- Assumes nothing.
 use Prim.Native.Nat.{ℕ, zero, suc, _+_, _-_, _≤_, _<_}
-use mathlib.Core.Bool.{Bool, true, false, not, _&&_}
+use mathlib.Core.Bool.{Bool, true, false, not, _&&_, and-comm}
 use mathlib.Core.List.{List}
 use mathlib.Core.Path.{_≡_, refl, sym, ap, ap₂, _∙_}
 use native.Mathlib.Nat.{le-refl}
@@ -27,12 +27,6 @@ use Rattle.rings.specs.Line.{ringsBefore, lineTo, inLine, Lined, isReach
 use Rattle.rings.specs.Search.{Searching, Searched}
 use Rattle.rings.proofs.InLine.{in-before, in-here, in-cases, line-next, line-zero, line-skip, lined-all, lined-skip, lined-next, longer, lined-take, ring-stands, ring-empty}
 use Rattle.rings.proofs.Started.{unreached-by, reached-by, started-ended, started-lined}
-
-and-swap : (a b : Bool) → (a && b) ≡ (b && a)
-and-swap true true = refl
-and-swap true false = refl
-and-swap false true = refl
-and-swap false false = refl
 
 -- agent i is not reached and has an offer for somebody of the ring
 unfoldable pub inNextRing : List ℕ → ℕ → List ℕ → ℕ → Bool
@@ -222,7 +216,7 @@ module _ {I : Instance} {x p : ℕ → ℕ} {offers sums ups : List ℕ} {least 
               limit = omega arith;
               due = λ h. is-due I x p (S .some) (suc t) i below l (at-within I x p (suc t) i now-here) (ltb-true _ _ found-above);
               gives = λ h. sym found-giver;
-              takes = λ h. let e : ring2b I x p - 1 ≡ t = omega (arith, found-ring) in rw (e, found-giver) (set-cong (λ j h. and-swap (supplies I x p i j) (atDistance I x p t j)) taken-at);
+              takes = λ h. let e : ring2b I x p - 1 ≡ t = omega (arith, found-ring) in rw (e, found-giver) (set-cong (λ j h. and-comm (supplies I x p i j) (atDistance I x p t j)) taken-at);
               upToGiver = λ h. rw (found-ring, found-giver) line-on;
               none = λ q. absurd (omega arith);
               all = λ q. absurd (omega arith);

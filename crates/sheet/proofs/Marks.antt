@@ -1,7 +1,7 @@
 -- Where the marks of a sheet lie, and what a row of them is.
 -- Assumes nothing.
 use Prim.Native.Nat.{ℕ, _+_, _*_, _-_, _/_, _%_, _^_, _≤_, _<_}
-use mathlib.Core.Bool.{true, false, not}
+use mathlib.Core.Bool.{true, false, not, Bool·not-not}
 use mathlib.Core.List.{List}
 use mathlib.Core.Path.{_≡_, refl, sym, ap, _∙_}
 use native.Mathlib.Nat.{mul-le-mul-right}
@@ -13,7 +13,6 @@ use Rattle.finite.specs.Sums.{countTo}
 use Rattle.finite.specs.Bits.{bit}
 use Rattle.finite.specs.Packed.{bitAt, bytesFor}
 use Rattle.finite.specs.Search.{anyBelow, allBelow}
-use Rattle.finite.proofs.Tests.{not-not}
 use Rattle.finite.proofs.Search.{any-zero, any-intro, all-cong}
 use Rattle.finite.proofs.Packed.{bit-in-byte, count-rest, all-counted, set-after}
 use Rattle.model.specs.Sheet.{headerSize, agentsOf, choresOf, rowSize, rowStart, rowOf, sheetLength, isDifficult, marksEasy, difficultMarks, allDifficult}
@@ -23,7 +22,7 @@ use Rattle.sheet.specs.Readers.{Read, Whole, RowInSheet, InSheet}
 -- a row is all difficult where none of its marks is easy
 pub all-difficult-row : (s : List ℕ) (i : ℕ) → allDifficult s i ≡ allBelow (choresOf s) (λ c. not (marksEasy s i c))
 unfolding allDifficult marksEasy
-all-difficult-row s i = all-cong (choresOf s) (λ c _. sym (not-not (isDifficult s i c)))
+all-difficult-row s i = all-cong (choresOf s) (λ c _. sym (Bool·not-not (isDifficult s i c)))
 
 module _ (s : List ℕ) (i : ℕ) (long : length s ≡ sheetLength s) (agent : i < agentsOf s) where
   -- a row lies inside its sheet
