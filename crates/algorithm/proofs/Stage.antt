@@ -14,8 +14,8 @@ use Rattle.finite.proofs.Below.{by-less, by-same}
 use Rattle.finite.proofs.Search.{found, first-some}
 use Rattle.finite.proofs.Where.{where-le}
 use Rattle.finite.proofs.Counts.{count-change}
-use Rattle.finite.proofs.Chosen.{Chosen, chosen-found, smaller, greater, smallest-le, greatest-ge}
-use Rattle.finite.proofs.Running.{smallest-some, greatest-some}
+use Rattle.finite.proofs.Chosen.{Chosen, chosen-found, smaller, greater, smaller-order, greater-order, smallest-le, greatest-ge}
+use Rattle.finite.proofs.Running.{chosen-some}
 use Rattle.model.specs.Instance.{Instance}
 use Rattle.model.specs.Fairness.{owns, total}
 use Rattle.model.specs.Prices.{priceSum, priceUpToOne}
@@ -58,11 +58,11 @@ module _ (I : Instance) (x p group : ℕ → ℕ) (cut : ℕ → Bool) (g : ℕ)
 
   giver-some : (k : ℕ) → k < I .n → group k ≡ g → giver2a I x p group cut g < I .n
   unfolding giver2a
-  giver-some k h e = greatest-some (λ i. eqb (group i) g) (priceUpToOne (I .m) x p) k h (eq-eqb (group k) g e)
+  giver-some k h e = chosen-some (greater-order (priceUpToOne (I .m) x p)) (I .n) (λ i. eqb (group i) g) k h (eq-eqb (group k) g e)
 
   receiver-some : (k : ℕ) → k < I .n → g < group k → receiver2a I x p group cut g < I .n
   unfolding receiver2a
-  receiver-some k h e = smallest-some (λ i. ltb g (group i)) (priceSum (I .m) x p) k h (lt-ltb g (group k) e)
+  receiver-some k h e = chosen-some (smaller-order (priceSum (I .m) x p)) (I .n) (λ i. ltb g (group i)) k h (lt-ltb g (group k) e)
 
   -- what the test of 2a says where it passes, and where it fails
   due-elim : due2a I x p group cut g ≡ true → (giver2a I x p group cut g < I .n) × (receiver2a I x p group cut g < I .n) × (priceSum (I .m) x p (receiver2a I x p group cut g) < priceUpToOne (I .m) x p (giver2a I x p group cut g))

@@ -6,12 +6,11 @@ use mathlib.Core.Path.{_≡_, sym, subst, _∙_}
 use native.Mathlib.Nat.{le-refl, le-of-lt}
 use native.Mathlib.Numerals.{add-one}
 use native.Mathlib.Omega.{arith}
-use borrow.Author.Tests.{lt-ltb, le-ltb}
 use borrow.Author.Count.{below-none, below-more}
 use Rattle.finite.specs.Search.{chosen}
 use Rattle.finite.proofs.Tests.{by-test, clash, not-no}
 use Rattle.finite.proofs.Below.{by-less}
-use Rattle.finite.proofs.Chosen.{Chosen, Order, chosen-none, chosen-unique, chosen-more, chosen-intro, order-same, smaller, greater, smaller-order, greater-order}
+use Rattle.finite.proofs.Chosen.{Chosen, Order, chosen-none, chosen-unique, chosen-more, chosen-intro, order-same}
 
 -- r is the choice among the numbers below k; it is n where none of them passes
 pub record Running (n k : ℕ) (t : ℕ → Bool) (better : ℕ → ℕ → Bool) (r : ℕ) : Type 0 where
@@ -97,30 +96,3 @@ module _ {better : ℕ → ℕ → Bool} (o : Order better) (n : ℕ) (t : ℕ �
       let e = run-done (s .runs) in
       by-less (chosen n t better) n (λ h. h)
       (λ h. absurd (clash p (s .runs .none (omega (arith, s .runs .limit)) i l)))
-
--- smaller and greater by a key f
-
-module _ (f : ℕ → ℕ) {n k : ℕ} {t : ℕ → Bool} {r : ℕ} where
-  pub smallest-take : Running n k t (smaller f) r → k < n → t k ≡ true → f k < f r → Running n (k + 1) t (smaller f) k
-  smallest-take s l p h = run-take (smaller-order f) s l p (λ _. lt-ltb (f k) (f r) h)
-
-  pub smallest-keep : Running n k t (smaller f) r → r < n → f r ≤ f k → Running n (k + 1) t (smaller f) r
-  smallest-keep s l h = run-keep s l (le-ltb (f k) (f r) h)
-
-  pub smallest-first : Running n k t (smaller f) r → k < n → t k ≡ true → r ≡ n → Running n (k + 1) t (smaller f) k
-  smallest-first = run-first (smaller-order f)
-
-  pub greatest-take : Running n k t (greater f) r → k < n → t k ≡ true → f r < f k → Running n (k + 1) t (greater f) k
-  greatest-take s l p h = run-take (greater-order f) s l p (λ _. lt-ltb (f r) (f k) h)
-
-  pub greatest-keep : Running n k t (greater f) r → r < n → f k ≤ f r → Running n (k + 1) t (greater f) r
-  greatest-keep s l h = run-keep s l (le-ltb (f r) (f k) h)
-
-  pub greatest-first : Running n k t (greater f) r → k < n → t k ≡ true → r ≡ n → Running n (k + 1) t (greater f) k
-  greatest-first = run-first (greater-order f)
-
-pub smallest-some : {n : ℕ} (t : ℕ → Bool) (f : ℕ → ℕ) (i : ℕ) → i < n → t i ≡ true → chosen n t (smaller f) < n
-smallest-some {n} t f i l p = chosen-some (smaller-order f) n t i l p
-
-pub greatest-some : {n : ℕ} (t : ℕ → Bool) (f : ℕ → ℕ) (i : ℕ) → i < n → t i ≡ true → chosen n t (greater f) < n
-greatest-some {n} t f i l p = chosen-some (greater-order f) n t i l p

@@ -1,15 +1,15 @@
 -- Laws of the tests and searches over the numbers below a bound.
 -- Assumes nothing.
 use Prim.Native.Nat.{ℕ, zero, suc, _+_, _≤_, _<_, min}
-use mathlib.Core.Bool.{Bool, true, false, _&&_, _||_}
+use mathlib.Core.Bool.{Bool, true, false, not, _&&_, _||_}
 use mathlib.Core.Path.{_≡_, refl, sym, ap, ap₂, _∙_}
 use native.Mathlib.Nat.{le-refl, le-antisymm, lt-of-lt-of-le, lt-of-le-of-lt}
 use native.Mathlib.Numerals.{add-one}
 use native.Mathlib.Omega.{arith}
 use lib.Dec.{eqb, ltb}
-use borrow.Author.Tests.{ltb-true, ltb-false, lt-ltb, le-ltb, ne-eqb}
+use borrow.Author.Tests.{ltb-true, ltb-false, lt-ltb, le-ltb, ne-eqb, not-true, not-false}
 use Rattle.finite.specs.Search.{anyBelow, allBelow, firstStep, firstBelow, Hit, Miss, First}
-use Rattle.finite.proofs.Tests.{by-test, by-cond, clash, bool-eq, fails-of, not-yes, and-elim, and-intro, and-cases, or-cases, or-left, or-right, or-none-intro, eqb-same}
+use Rattle.finite.proofs.Tests.{by-test, by-cond, clash, bool-eq, fails-of, not-yes, and-elim, and-intro, or-cases, or-left, or-right, or-none-intro, eqb-same}
 use Rattle.finite.proofs.Below.{none-below, by-top, lower, by-less}
 
 -- anyBelow
@@ -73,12 +73,10 @@ all-intro zero t all = refl
 all-intro (suc k) t all = and-intro (all-intro k t (lower all)) (all k (le-refl _))
 
 pub all-fails : (n : ℕ) (t : ℕ → Bool) → allBelow n t ≡ false → Miss n t
-unfolding allBelow
-all-fails zero t e = absurd (clash refl e)
-all-fails (suc k) t e =
-    and-cases (allBelow k t) (t k) e
-    (λ h. let r = all-fails k t h in let l : r .index < suc k = omega arith in record { index = r .index; below = l; fails = r .fails })
-    (λ h. record { index = k; below = le-refl _; fails = h })
+all-fails n t e =
+    by-test (anyBelow n (λ i. not (t i)))
+    (λ h. let r = any-elim n _ h in record { index = r .index; below = r .below; fails = not-true _ (r .passes) })
+    (λ h. absurd (clash (all-intro n t (λ i l. not-false _ (any-none n _ h i l))) e))
 
 pub all-fails-intro : {n : ℕ} (t : ℕ → Bool) (i : ℕ) → i < n → t i ≡ false → allBelow n t ≡ false
 all-fails-intro {n} t i l h = not-yes _ (λ e. clash (all-elim n t e i l) h)

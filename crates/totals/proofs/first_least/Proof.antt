@@ -6,8 +6,9 @@ use mathlib.Core.Path.{_≡_, refl}
 use native.Mathlib.Omega.{arith}
 use lib.ListN.{getD}
 use borrow.Author.Needs.{needs}
-use Rattle.finite.proofs.Chosen.{smaller}
-use Rattle.finite.proofs.Running.{Running, run-zero, run-done, smallest-take, smallest-keep, smallest-first}
+use borrow.Author.Tests.{lt-ltb, le-ltb}
+use Rattle.finite.proofs.Chosen.{smaller, smaller-order}
+use Rattle.finite.proofs.Running.{Running, run-zero, run-done, run-take, run-keep, run-first}
 use Rattle.totals.proofs.first_least.Statement.{statement}
 use Rattle.totals.proofs.first_least.Tie as tie
 
@@ -21,7 +22,7 @@ abbrev μ-loop : tie.MeasureT-loop
 loop-holds : tie.Need-loop-holds Inv-loop μ-loop
 loop-holds c =
     let some = c .pre .0 in
-    (omega arith, some, smallest-first (λ k. getD (c .args .sums .now) k 0) (run-zero _ _ _) some refl refl)
+    (omega arith, some, run-first (smaller-order (λ k. getD (c .args .sums .now) k 0)) (run-zero _ _ _) some refl refl)
 
 mul-if1 : tie.Need-mul-if1 Inv-loop μ-loop
 mul-if1 c = omega arith
@@ -48,8 +49,8 @@ loop-again c =
     let f : ℕ → ℕ = λ k. getD (start .args .sums .now) k 0 in
     let l : loop .i < start .args .n = omega arith in
     ⊎-elim
-    (λ w. (omega arith, rw (w .1) l, rw (w .1) (smallest-take f (loop .inv .2) l refl (w .0 .taken))))
-    (λ w. (omega arith, rw (w .1) (loop .inv .1), rw (w .1) (smallest-keep f (loop .inv .2) (loop .inv .1) (w .0 .left))))
+    (λ w. (omega arith, rw (w .1) l, rw (w .1) (run-take (smaller-order f) (loop .inv .2) l refl (λ _. lt-ltb _ _ (w .0 .taken)))))
+    (λ w. (omega arith, rw (w .1) (loop .inv .1), rw (w .1) (run-keep (loop .inv .2) (loop .inv .1) (le-ltb _ _ (w .0 .left)))))
     (c .if1 .came)
 
 returns : tie.Need-returns Inv-loop μ-loop

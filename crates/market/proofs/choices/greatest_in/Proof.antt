@@ -6,9 +6,9 @@ use mathlib.Core.Logic.{⊎-elim}
 use native.Mathlib.Omega.{arith}
 use lib.ListN.{length, getD}
 use lib.Dec.{eqb}
-use borrow.Author.Tests.{eq-eqb, ne-eqb}
-use Rattle.finite.proofs.Chosen.{greater}
-use Rattle.finite.proofs.Running.{Running, run-zero, run-done, run-skip, greatest-take, greatest-keep, greatest-first}
+use borrow.Author.Tests.{eq-eqb, ne-eqb, lt-ltb, le-ltb}
+use Rattle.finite.proofs.Chosen.{greater, greater-order}
+use Rattle.finite.proofs.Running.{Running, run-zero, run-done, run-skip, run-take, run-keep, run-first}
 use Rattle.market.specs.Market.{groupOf}
 use borrow.Author.Needs.{needs}
 use Rattle.market.proofs.choices.greatest_in.Statement.{statement}
@@ -53,9 +53,9 @@ loop-again c =
     let l : c .before .before .before .loop .i < length (c .before .before .before .before .args .groups .now) = omega arith in (
       refl,
       omega arith,
-      ⊎-elim (λ w. rw (w .2) (greatest-first f s l (eq-eqb _ _ (w .0 .taken)) (w .1 .taken)))
-          (⊎-elim (λ w. rw (w .5) (greatest-take f s l (eq-eqb _ _ (w .0 .taken)) (w .4 .taken)))
-          (⊎-elim (λ w. rw (w .5) (greatest-keep f s (omega (arith, w .1 .left)) (w .4 .left)))
+      ⊎-elim (λ w. rw (w .2) (run-first (greater-order f) s l (eq-eqb _ _ (w .0 .taken)) (w .1 .taken)))
+          (⊎-elim (λ w. rw (w .5) (run-take (greater-order f) s l (eq-eqb _ _ (w .0 .taken)) (λ _. lt-ltb _ _ (w .4 .taken))))
+          (⊎-elim (λ w. rw (w .5) (run-keep s (omega (arith, w .1 .left)) (le-ltb _ _ (w .4 .left))))
           (λ w. rw (w .1) (run-skip s (ne-eqb _ _ (w .0 .left))))))
           (c .if1 .came),
     )

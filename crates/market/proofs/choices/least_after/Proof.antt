@@ -7,8 +7,8 @@ use native.Mathlib.Omega.{arith}
 use lib.ListN.{length, getD}
 use lib.Dec.{ltb}
 use borrow.Author.Tests.{lt-ltb, le-ltb}
-use Rattle.finite.proofs.Chosen.{smaller}
-use Rattle.finite.proofs.Running.{Running, run-zero, run-done, run-skip, smallest-take, smallest-keep, smallest-first}
+use Rattle.finite.proofs.Chosen.{smaller, smaller-order}
+use Rattle.finite.proofs.Running.{Running, run-zero, run-done, run-skip, run-take, run-keep, run-first}
 use Rattle.market.specs.Market.{groupOf}
 use borrow.Author.Needs.{needs}
 use Rattle.market.proofs.choices.least_after.Statement.{statement}
@@ -53,9 +53,9 @@ loop-again c =
     let l : c .before .before .before .loop .i < length (c .before .before .before .before .args .groups .now) = omega arith in (
       refl,
       omega arith,
-      ⊎-elim (λ w. rw (w .2) (smallest-first f s l (lt-ltb _ _ (w .0 .taken)) (w .1 .taken)))
-          (⊎-elim (λ w. rw (w .5) (smallest-take f s l (lt-ltb _ _ (w .0 .taken)) (w .4 .taken)))
-          (⊎-elim (λ w. rw (w .5) (smallest-keep f s (omega (arith, w .1 .left)) (w .4 .left)))
+      ⊎-elim (λ w. rw (w .2) (run-first (smaller-order f) s l (lt-ltb _ _ (w .0 .taken)) (w .1 .taken)))
+          (⊎-elim (λ w. rw (w .5) (run-take (smaller-order f) s l (lt-ltb _ _ (w .0 .taken)) (λ _. lt-ltb _ _ (w .4 .taken))))
+          (⊎-elim (λ w. rw (w .5) (run-keep s (omega (arith, w .1 .left)) (le-ltb _ _ (w .4 .left))))
           (λ w. rw (w .1) (run-skip s (le-ltb _ _ (w .0 .left))))))
           (c .if1 .came),
     )
