@@ -14,7 +14,7 @@ use Rattle.finite.proofs.Search.{all-zero, all-next, all-fails-intro}
 use Rattle.model.specs.Limits.{maxAgents}
 use Rattle.model.specs.Instance.{ownerOf}
 use Rattle.model.specs.Sheet.{agentsOf, choresOf, easyWeight, difficultWeight, asMarked}
-use Rattle.model.specs.Fairness.{ownersInRange}
+use Rattle.model.specs.Fairness.{entriesInRange}
 use Rattle.model.specs.Refusals.{_orElse_, sheetRefusal, ownersRefusal}
 use Rattle.sheet.proofs.OrElse.{or-else-zero}
 use Rattle.sheet.proofs.Judged.{owners-picks}
@@ -23,26 +23,26 @@ use Rattle.given.specs.Given.{givenRefusal, Given, Weighed, Owned}
 
 -- entries from 1 to a limit: what one more entry adds, and what one entry out of range spoils
 
-pub range-zero : (n : ℕ) (owners : List ℕ) → ownersInRange n 0 owners ≡ true
-unfolding ownersInRange
+pub range-zero : (n : ℕ) (owners : List ℕ) → entriesInRange n 0 owners ≡ true
+unfolding entriesInRange
 range-zero n owners = all-zero _
 
 module _ (n : ℕ) (owners : List ℕ) (c : ℕ) where
   in-range : ℕ → Bool
   in-range k = ltb 0 (getD owners k 0) && leb (getD owners k 0) n
 
-  pub range-next : ownersInRange n c owners ≡ true → (getD owners c 0 ≡ 0 → ⊥) → getD owners c 0 ≤ n → ownersInRange n (c + 1) owners ≡ true
-  unfolding ownersInRange in-range
+  pub range-next : entriesInRange n c owners ≡ true → (getD owners c 0 ≡ 0 → ⊥) → getD owners c 0 ≤ n → entriesInRange n (c + 1) owners ≡ true
+  unfolding entriesInRange in-range
   range-next e some fits =
       all-next c in-range ∙ and-intro e (and-intro (lt-ltb 0 (getD owners c 0) (omega arith)) (le-leb (getD owners c 0) n fits))
 
-  pub range-none : {m : ℕ} → c < m → getD owners c 0 ≡ 0 → ownersInRange n m owners ≡ false
-  unfolding ownersInRange in-range
+  pub range-none : {m : ℕ} → c < m → getD owners c 0 ≡ 0 → entriesInRange n m owners ≡ false
+  unfolding entriesInRange in-range
   range-none l e =
       all-fails-intro in-range c l (and-no-left (leb (getD owners c 0) n) (le-ltb 0 (getD owners c 0) (omega arith)))
 
-  pub range-above : {m : ℕ} → c < m → n < getD owners c 0 → ownersInRange n m owners ≡ false
-  unfolding ownersInRange in-range
+  pub range-above : {m : ℕ} → c < m → n < getD owners c 0 → entriesInRange n m owners ≡ false
+  unfolding entriesInRange in-range
   range-above l h =
       all-fails-intro in-range c l (and-no-right (ltb 0 (getD owners c 0)) (lt-leb (getD owners c 0) n h))
 
@@ -53,11 +53,11 @@ module _ (n m : ℕ) (owners : List ℕ) where
   refused-size h = rw (ne-eqb (length owners) m h)
 
   module _ (size : length owners ≡ m) where
-    pub refused-range : ownersInRange n m owners ≡ false → ownersRefusal n m owners ≡ 7
+    pub refused-range : entriesInRange n m owners ≡ false → ownersRefusal n m owners ≡ 7
     unfolding ownersRefusal _orElse_
     refused-range e = rw (eq-eqb (length owners) m size, e)
 
-    pub owners-fine : ownersInRange n m owners ≡ true → ownersRefusal n m owners ≡ 0
+    pub owners-fine : entriesInRange n m owners ≡ true → ownersRefusal n m owners ≡ 0
     unfolding ownersRefusal _orElse_
     owners-fine e = rw (eq-eqb (length owners) m size, e)
 

@@ -54,14 +54,14 @@ dominates I y x =
     allBelow (I .n) (λ i. leb (costTo I y i i) (costTo I x i i))
     && anyBelow (I .n) (λ i. ltb (costTo I y i i) (costTo I x i i))
 
--- each of the first m owners is a number from 1 to n
-unfoldable pub ownersInRange : ℕ → ℕ → List ℕ → Bool
-ownersInRange n m owners = allBelow m (λ c. ltb 0 (getD owners c 0) && leb (getD owners c 0) n)
+-- each of the first m entries, owners or prices, is a number from 1 to the limit
+unfoldable pub entriesInRange : ℕ → ℕ → List ℕ → Bool
+entriesInRange limit m xs = allBelow m (λ c. ltb 0 (getD xs c 0) && leb (getD xs c 0) limit)
 
 -- "The other lists are all those of m owners from 1 to n."
 unfoldable pub isAllocation : Instance → List ℕ → Bool
 isAllocation I owners =
-    eqb (length owners) (I .m) && ownersInRange (I .n) (I .m) owners
+    eqb (length owners) (I .m) && entriesInRange (I .n) (I .m) owners
 
 -- "Wasteful": some list of m owners from 1 to n dominates
 unfoldable pub dominated : Instance → (ℕ → ℕ) → Bool

@@ -1,16 +1,16 @@
 -- Document 01, "Numbers for what is turned down", and document 02: the number of each call's refusal, 0 where it is not turned down.
 use Prim.Native.Nat.{ℕ, _+_, _*_, _-_}
-use mathlib.Core.Bool.{Bool, cond, not, _&&_, _||_}
+use mathlib.Core.Bool.{Bool, cond, not, _||_}
 use mathlib.Core.List.{List}
 use lib.Dec.{eqb, leb, ltb}
-use lib.ListN.{length, getD}
-use Rattle.finite.specs.Search.{allBelow, anyBelow}
+use lib.ListN.{length}
+use Rattle.finite.specs.Search.{anyBelow}
 use Rattle.finite.specs.Packed.{bitAt, bytesFor}
 use Rattle.model.specs.Limits.{maxAgents, maxChores, maxWeight, maxPrice, scratchSize, bookEntries}
 use Rattle.model.specs.Sheet.{agentsOf, choresOf, easyWeight, difficultWeight, headerSize, rowOf, sheetLength}
 use Rattle.model.specs.Strands.{agree, joinedChores, joinedSheet}
 use Rattle.model.specs.Contents.{sheetCount, bookFits}
-use Rattle.model.specs.Fairness.{ownersInRange}
+use Rattle.model.specs.Fairness.{entriesInRange}
 use Rattle.model.specs.Record.{moveSize}
 
 infixr 25 _orElse_
@@ -67,15 +67,11 @@ ownersRefusal n m owners =
     -- "owner list not of length m"
     6 when not (eqb (length owners) m)
     -- "an owner of 0 or above n"
-    orElse 7 when not (ownersInRange n m owners)
-
--- each of the first m prices is from 1 to 1,000,000
-unfoldable pub pricesInRange : ℕ → List ℕ → Bool
-pricesInRange m prices = allBelow m (λ c. ltb 0 (getD prices c 0) && leb (getD prices c 0) maxPrice)
+    orElse 7 when not (entriesInRange n m owners)
 
 -- 10: "price list not of length m, or a price of 0 or above 1,000,000"
 unfoldable pub pricesRefusal : ℕ → List ℕ → ℕ
-pricesRefusal m prices = 10 when (not (eqb (length prices) m) || not (pricesInRange m prices))
+pricesRefusal m prices = 10 when (not (eqb (length prices) m) || not (entriesInRange maxPrice m prices))
 
 -- 8: something lent has fewer than the entries needed
 unfoldable pub lentRefusal : ℕ → ℕ → ℕ

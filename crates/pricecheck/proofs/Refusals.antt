@@ -3,15 +3,15 @@
 use Prim.Native.Nat.{ℕ}
 use mathlib.Core.Bool.{true, false}
 use mathlib.Core.List.{List}
-use mathlib.Core.Path.{_≡_, refl, sym, _∙_}
+use mathlib.Core.Path.{_≡_, sym, _∙_}
 use native.Mathlib.Nat.{le-trans}
 use native.Mathlib.Omega.{arith}
 use lib.ListN.{length}
 use borrow.Author.Tests.{eq-eqb, ne-eqb}
 use Rattle.model.specs.Limits.{maxPrice}
 use Rattle.model.specs.Sheet.{agentsOf, choresOf, easyWeight, difficultWeight}
-use Rattle.model.specs.Fairness.{ownersInRange}
-use Rattle.model.specs.Refusals.{pricesInRange, pricesRefusal, priceRefusal}
+use Rattle.model.specs.Fairness.{entriesInRange}
+use Rattle.model.specs.Refusals.{pricesRefusal, priceRefusal}
 use Rattle.sheet.proofs.OrElse.{or-else-zero, or-else-assoc}
 use Rattle.sheet.proofs.Judged.{prices-picks}
 use Rattle.given.specs.Given.{givenRefusal}
@@ -21,22 +21,18 @@ use Rattle.pricecheck.specs.Worths.{Rated}
 use Rattle.given.proofs.Given.{given, given-few, given-weighed}
 
 module _ (m : ℕ) (prices : List ℕ) where
-  range-is : pricesInRange m prices ≡ ownersInRange maxPrice m prices
-  unfolding pricesInRange ownersInRange
-  range-is = refl
-
   pub prices-refused-size : (length prices ≡ m → ⊥) → pricesRefusal m prices ≡ 10
   unfolding pricesRefusal
   prices-refused-size h = rw (ne-eqb (length prices) m h)
 
   module _ (size : length prices ≡ m) where
-    pub prices-refused-range : ownersInRange maxPrice m prices ≡ false → pricesRefusal m prices ≡ 10
+    pub prices-refused-range : entriesInRange maxPrice m prices ≡ false → pricesRefusal m prices ≡ 10
     unfolding pricesRefusal
-    prices-refused-range e = rw (eq-eqb (length prices) m size, range-is, e)
+    prices-refused-range e = rw (eq-eqb (length prices) m size, e)
 
-    pub prices-fine : ownersInRange maxPrice m prices ≡ true → pricesRefusal m prices ≡ 0
+    pub prices-fine : entriesInRange maxPrice m prices ≡ true → pricesRefusal m prices ≡ 0
     unfolding pricesRefusal
-    prices-fine e = rw (eq-eqb (length prices) m size, range-is, e)
+    prices-fine e = rw (eq-eqb (length prices) m size, e)
 
 -- what the refusal being 0 gives
 pub prices-given : (s owners prices : List ℕ) {n m : ℕ} → priceRefusal s owners prices ≡ 0 → n ≡ agentsOf s → m ≡ choresOf s → PricesGiven s owners prices n m

@@ -10,8 +10,8 @@ use borrow.Author.Tests.{eqb-true, eq-eqb, not-false}
 use Rattle.finite.specs.Lists.{Picks}
 use Rattle.finite.proofs.Tests.{or-none}
 use Rattle.model.specs.Limits.{maxPrice}
-use Rattle.model.specs.Fairness.{ownersInRange}
-use Rattle.model.specs.Refusals.{_orElse_, ownersRefusal, pricesInRange, pricesRefusal}
+use Rattle.model.specs.Fairness.{entriesInRange}
+use Rattle.model.specs.Refusals.{_orElse_, ownersRefusal, pricesRefusal}
 use Rattle.model.proofs.Allocations.{range-picks, picks-range}
 use Rattle.sheet.proofs.OrElse.{when-none, peel}
 
@@ -26,11 +26,11 @@ unfolding ownersRefusal _orElse_
 picks-owners {n} {m} {owners} p = rw (eq-eqb (length owners) m (p .size), picks-range p)
 
 pub prices-picks : {m : ℕ} {prices : List ℕ} → pricesRefusal m prices ≡ 0 → Picks maxPrice m prices
-unfolding pricesRefusal pricesInRange ownersInRange
+unfolding pricesRefusal
 prices-picks {m} {prices} e =
-    let both = or-none (not (eqb (length prices) m)) (not (pricesInRange m prices)) (when-none _ 9 e) in
+    let both = or-none (not (eqb (length prices) m)) (not (entriesInRange maxPrice m prices)) (when-none _ 9 e) in
     range-picks (eqb-true (length prices) m (not-false _ (both .0))) (not-false _ (both .1))
 
 pub picks-prices : {m : ℕ} {prices : List ℕ} → Picks maxPrice m prices → pricesRefusal m prices ≡ 0
-unfolding pricesRefusal pricesInRange ownersInRange
+unfolding pricesRefusal
 picks-prices {m} {prices} p = rw (eq-eqb (length prices) m (p .size), picks-range p)

@@ -11,12 +11,12 @@ use Rattle.finite.specs.Lists.{tabulate, Picks}
 use Rattle.finite.proofs.Tests.{and-elim}
 use Rattle.finite.proofs.Lists.{tab-length, tab-at, list-intro, list-none-intro}
 use Rattle.model.specs.Instance.{Instance, ownerOf}
-use Rattle.model.specs.Fairness.{ownersInRange, isAllocation, dominates, dominated}
+use Rattle.model.specs.Fairness.{entriesInRange, isAllocation, dominates, dominated}
 use Rattle.model.proofs.Allocations.{entry-range}
 use Rattle.welfare.proofs.Domination.{Dominating, dominates-intro, dominates-cong}
 
 -- in an owner list in range each entry stands for an agent
-pub owner-below : (n m : ℕ) (owners : List ℕ) → ownersInRange n m owners ≡ true → (c : ℕ) → c < m → ownerOf owners c < n
+pub owner-below : (n m : ℕ) (owners : List ℕ) → entriesInRange n m owners ≡ true → (c : ℕ) → c < m → ownerOf owners c < n
 unfolding ownerOf
 owner-below n m owners e c l = let both = entry-range n m owners e c l in omega arith
 

@@ -6,13 +6,13 @@ use native.Mathlib.Omega.{arith}
 use lib.ListN.{length}
 use borrow.Author.Needs.{needs}
 use borrow.Author.Tests.{ltb-true, ltb-false}
-use Rattle.model.specs.Fairness.{ownersInRange}
+use Rattle.model.specs.Fairness.{entriesInRange}
 use Rattle.given.proofs.Given.{range-zero, range-next, range-none, range-above, refused-size, refused-range, owners-fine}
 use Rattle.given.proofs.owners_refusal.Statement.{statement}
 use Rattle.given.proofs.owners_refusal.Tie as tie
 
 abbrev Inv-loop : tie.InvT-loop
-Inv-loop owners n m c₀ c = (length owners ≡ m) × (c ≤ m) × (ownersInRange n c owners ≡ true)
+Inv-loop owners n m c₀ c = (length owners ≡ m) × (c ≤ m) × (entriesInRange n c owners ≡ true)
 
 abbrev μ-loop : tie.MeasureT-loop
 μ-loop owners n m c₀ c = m - c

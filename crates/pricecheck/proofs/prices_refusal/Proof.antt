@@ -8,14 +8,14 @@ use lib.ListN.{length}
 use borrow.Author.Needs.{needs}
 use borrow.Author.Tests.{ltb-true, ltb-false}
 use Rattle.model.specs.Limits.{maxPrice}
-use Rattle.model.specs.Fairness.{ownersInRange}
+use Rattle.model.specs.Fairness.{entriesInRange}
 use Rattle.given.proofs.Given.{range-zero, range-next, range-none, range-above}
 use Rattle.pricecheck.proofs.Refusals.{prices-refused-size, prices-refused-range, prices-fine}
 use Rattle.pricecheck.proofs.prices_refusal.Statement.{statement}
 use Rattle.pricecheck.proofs.prices_refusal.Tie as tie
 
 abbrev Inv-loop : tie.InvT-loop
-Inv-loop prices m c₀ c = (length prices ≡ m) × (c ≤ m) × (ownersInRange maxPrice c prices ≡ true)
+Inv-loop prices m c₀ c = (length prices ≡ m) × (c ≤ m) × (entriesInRange maxPrice c prices ≡ true)
 
 abbrev μ-loop : tie.MeasureT-loop
 μ-loop prices m c₀ c = m - c
