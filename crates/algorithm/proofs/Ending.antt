@@ -1,19 +1,20 @@
 -- Algorithm 1 ends: every state of a run is a reached one, no number of steps lacks a chore, and some number of steps ends it.
 -- Assumes nothing.
-use Prim.Native.Nat.{ℕ, zero, suc, _≤_, _<_}
+use Prim.Native.Nat.{ℕ, zero, suc, _+_, _≤_, _<_}
 use mathlib.Core.Path.{_≡_, refl, sym, ap, subst, _∙_}
 use native.Mathlib.Nat.{le-refl}
 use native.Mathlib.Omega.{arith}
 use Rattle.model.specs.Instance.{Instance}
 use Rattle.model.specs.Prices.{priceSum, priceUpToOne}
 use Rattle.model.specs.Algorithm.{State, Outcome, busy, done, lacking, owner, price, opening, step, next, after}
+use Rattle.model.proofs.Unique.{stays}
 use Rattle.algorithm.specs.Kinds.{Sound}
 use Rattle.algorithm.specs.Reached.{stepNumber, Reached}
+use Rattle.algorithm.specs.RunMoves.{enoughSteps}
 use Rattle.algorithm.proofs.Machine.{Steps, ended, went, steps}
 
--- A run that ends in the state final.
-pub record Ended (I : Instance) : Type 0 where
-  pub count : ℕ
+-- A run that has ended in the state final after so many steps.
+pub record Ended (I : Instance) (count : ℕ) : Type 0 where
   pub final : State
   pub ends : after I count ≡ done final
 
@@ -65,15 +66,18 @@ module _ {I : Instance} (S : Sound I) where
     done-even k s e = subst (Good I) e (good k) .1
 
     -- by induction on a bound for the number of the state
-    ends-below : (b k : ℕ) (s : State) → after I k ≡ busy s → stepNumber I s < b → Ended I
+    ends-below : (b k j : ℕ) (s : State) → k + b ≡ j → after I k ≡ busy s → stepNumber I s < b → Ended I j
     unfolding after next
-    ends-below zero k s e l = absurd (omega arith)
-    ends-below (suc b) k s e l = go (steps (reached k s e) S) (ends-below b)
+    ends-below zero k j s q e l = absurd (omega arith)
+    ends-below (suc b) k j s q e l = go (steps (reached k s e) S) (ends-below b (suc k) j)
       where
-        go : Steps I s → ((k : ℕ) (s : State) → after I k ≡ busy s → stepNumber I s < b → Ended I) → Ended I
-        go (ended f even) again = record { count = suc k; final = s; ends = ap (next I) e ∙ f }
-        go (went t f U falls) again = again (suc k) t (ap (next I) e ∙ f) (omega arith)
+        then : suc k + b ≡ j
+        then = omega arith
 
-    pub run-ends : Ended I
-    unfolding after
-    run-ends = ends-below (suc (stepNumber I (opening I))) 0 (opening I) refl (le-refl _)
+        go : Steps I s → ((t : State) → suc k + b ≡ j → after I (suc k) ≡ busy t → stepNumber I t < b → Ended I j) → Ended I j
+        go (ended f even) again = let e′ = ap (next I) e ∙ f in record { final = s; ends = ap (after I) (sym then) ∙ stays I b (suc k) e′ ∙ e′ }
+        go (went t f U falls) again = again t then (ap (next I) e ∙ f) (omega arith)
+
+    pub run-ends : Ended I (enoughSteps I)
+    unfolding after enoughSteps
+    run-ends = ends-below (suc (stepNumber I (opening I))) 0 _ (opening I) (omega arith) refl (le-refl _)

@@ -5,11 +5,8 @@ use mathlib.Core.List.{List, [], _∷_, _++_, append-nil}
 use mathlib.Core.Path.{_≡_, refl, sym, ap, subst, _∙_}
 use native.Mathlib.Nat.{le-refl, le-of-eq}
 use native.Mathlib.Omega.{arith}
-use lib.Dec.{eqb}
 use lib.ListN.{length, set, take, length-append}
 use lib.Seq.{take-append-le, take-at}
-use borrow.Author.Tests.{eqb-true, eqb-false}
-use Rattle.finite.proofs.Tests.{by-test}
 use Rattle.finite.proofs.Below.{none-below, by-less}
 use Rattle.model.specs.Instance.{Instance, ownerOf}
 use Rattle.model.specs.Sheet.{asRead}
@@ -21,12 +18,12 @@ use Rattle.model.proofs.Unique.{same-moves}
 use Rattle.model.proofs.Record.{played-append, move-before, move-next}
 use Rattle.algorithm.specs.Kinds.{Sound}
 use Rattle.algorithm.specs.Reached.{Reached}
-use Rattle.algorithm.specs.RunMoves.{stateIn, TheMoves}
+use Rattle.algorithm.specs.RunMoves.{stateIn, enoughSteps}
 use Rattle.algorithm.proofs.Reading.{sheet-sound}
 use Rattle.algorithm.proofs.Machine.{hand-known}
 use Rattle.algorithm.proofs.Begin.{opening-reached}
 use Rattle.algorithm.proofs.Ending.{reached}
-use Rattle.algorithm.proofs.Theorem.{theorem}
+use Rattle.algorithm.proofs.Theorem.{theorem, ends-then}
 
 leads-none : (I : Instance) → Leads I [] (opening I)
 unfolding opening played
@@ -123,15 +120,12 @@ run-moves s valid x E =
       leads = subst (λ o. Leads (asRead s) (movesIn (asRead s) (E .steps)) (stateIn o)) (E .ends) (leads (sheet-sound s valid) (E .steps));
     }
 
--- there are such moves for every sheet: none where nothing is run
-pub moves-of : (s : List ℕ) → TheMoves s
-moves-of s =
-    by-test (eqb (sheetRefusal s) 0)
-    (λ e. let valid = eqb-true (sheetRefusal s) 0 e in let T = theorem s valid in record { moves = movesIn (asRead s) (T .demand3 .ends .steps); run = λ _. run-moves s valid (T .final) (T .demand3 .ends) })
-    (λ e. record { moves = []; run = λ valid. absurd (eqb-false (sheetRefusal s) 0 e valid) })
+-- the moves of as many steps as are enough are those of the run
+pub run-of : (s : List ℕ) → sheetRefusal s ≡ 0 → RunMoves s (movesIn (asRead s) (enoughSteps (asRead s)))
+run-of s valid =
+    let T = theorem s valid in
+    run-moves s valid (T .final) (record { steps = enoughSteps (asRead s); ends = ends-then s valid (T .final) (T .demand3 .ends) })
 
--- and they are those of any run that ends
-pub moves-are : (s : List ℕ) → sheetRefusal s ≡ 0 → {x : State} (E : Ends (asRead s) x) → moves-of s .moves ≡ movesIn (asRead s) (E .steps)
-moves-are s valid {x} E =
-    let R = moves-of s .run valid in
-    R .inOrder ∙ same-moves (asRead s) (R .ends .steps) (E .steps) (R .final) x (R .ends .ends) (E .ends)
+-- and of any run that ends
+pub moves-are : (s : List ℕ) → sheetRefusal s ≡ 0 → {x : State} (E : Ends (asRead s) x) → movesIn (asRead s) (enoughSteps (asRead s)) ≡ movesIn (asRead s) (E .steps)
+moves-are s valid {x} E = same-moves (asRead s) (enoughSteps (asRead s)) (E .steps) x x (ends-then s valid x E) (E .ends)

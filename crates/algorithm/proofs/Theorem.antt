@@ -2,18 +2,19 @@
 -- Assumes nothing.
 use Prim.Native.Nat.{ℕ}
 use mathlib.Core.List.{List}
-use mathlib.Core.Path.{_≡_, subst}
+use mathlib.Core.Path.{_≡_, ap, subst, _∙_}
 use native.Mathlib.Omega.{arith}
 use Rattle.finite.specs.Lists.{Picks}
 use Rattle.model.specs.Instance.{Instance, ownerOf}
 use Rattle.model.specs.Sheet.{asMarked, asRead}
-use Rattle.model.specs.Algorithm.{State, Ends}
+use Rattle.model.specs.Algorithm.{State, done, after, Ends}
 use Rattle.model.specs.Refusals.{sheetRefusal}
 use Rattle.model.specs.Promises.{Demand3, FewMoves}
 use Rattle.model.proofs.Unique.{unique}
 use Rattle.model.proofs.Allocations.{picks-allocation}
 use Rattle.welfare.proofs.AcceptedSheet.{accepted-fair}
 use Rattle.algorithm.specs.Reached.{Reached}
+use Rattle.algorithm.specs.RunMoves.{enoughSteps}
 use Rattle.algorithm.specs.Theorem.{Theorem}
 use Rattle.algorithm.proofs.Reading.{sheet-sound}
 use Rattle.algorithm.proofs.Best.{three-prices}
@@ -43,17 +44,18 @@ theorem s valid =
     let S = sheet-sound s valid in
     let O = opening-reached S in
     let E = run-ends S O in
+    let count = enoughSteps (asRead s) in
     let x = E .final in
-    let R = done-reached S O (E .count) x (E .ends) in
-    let passes = check-accepted s (x .owners) (x .prices) valid (R .core) (picks R) (R .shaped .prices) (done-even S O (E .count) x (E .ends)) in
+    let R = done-reached S O count x (E .ends) in
+    let passes = check-accepted s (x .owners) (x .prices) valid (R .core) (picks R) (R .shaped .prices) (done-even S O count x (E .ends)) in
     let fair = accepted-fair s (x .owners) (x .prices) passes in
     record {
       opens = opening-costs-least S;
       final = x;
       demand3 =
           record {
-            ends = record { steps = E .count; ends = E .ends };
-            only = λ y F. unique (asRead s) (F .steps) (E .count) y x (F .ends) (E .ends);
+            ends = record { steps = count; ends = E .ends };
+            only = λ y F. unique (asRead s) (F .steps) count y x (F .ends) (E .ends);
             cuts = fewer-cuts R;
             neverLacks = never-lacking S O;
             allocation = picks-allocation (asMarked s) (x .owners) (picks R);
@@ -65,6 +67,13 @@ theorem s valid =
       clean = λ k y e q. clean-cut (reached S O k y e) S q;
       few = few-moves R;
     }
+
+-- whatever run ends, it has ended after those steps, in the same state
+pub ends-then : (s : List ℕ) → sheetRefusal s ≡ 0 → (x : State) → Ends (asRead s) x → after (asRead s) (enoughSteps (asRead s)) ≡ done x
+ends-then s valid x F =
+    let S = sheet-sound s valid in
+    let E = run-ends S (opening-reached S) in
+    E .ends ∙ ap done (unique (asRead s) (enoughSteps (asRead s)) (F .steps) (E .final) x (E .ends) (F .ends))
 
 -- the result is unique, so whatever run ends, its state is the theorem's
 same-final : (s : List ℕ) (valid : sheetRefusal s ≡ 0) (x : State) → Ends (asRead s) x → theorem s valid .final ≡ x

@@ -1,11 +1,8 @@
--- The moves of a run up to a state, and of a sheet's run.
-use Prim.Native.Nat.{ℕ}
-use mathlib.Core.List.{List}
-use mathlib.Core.Path.{_≡_}
-use Rattle.model.specs.Algorithm.{State, Outcome, busy, done, lacking}
-use Rattle.model.specs.Record.{Move}
-use Rattle.model.specs.Refusals.{sheetRefusal}
-use Rattle.model.specs.Promises.{RunMoves}
+-- The state and the moves that a run comes to.
+use Prim.Native.Nat.{ℕ, suc}
+use Rattle.model.specs.Instance.{Instance}
+use Rattle.model.specs.Algorithm.{State, Outcome, busy, done, lacking, opening}
+use Rattle.algorithm.specs.Reached.{stepNumber}
 
 -- the state that an outcome is in
 unfoldable pub stateIn : Outcome → State
@@ -13,7 +10,6 @@ stateIn (busy s) = s
 stateIn (done s) = s
 stateIn (lacking s) = s
 
--- The moves of the run on the sheet s, if it breaks no rule.
-pub record TheMoves (s : List ℕ) : Type 0 where
-  pub moves : List Move
-  pub run : sheetRefusal s ≡ 0 → RunMoves s moves
+-- so many steps are enough for a run to end: each lowers the number of the state
+unfoldable pub enoughSteps : Instance → ℕ
+enoughSteps I = suc (stepNumber I (opening I))

@@ -1,13 +1,13 @@
 -- Laws of the state in which the share-out of a sheet ends.
 -- Assumes nothing.
 use Prim.Native.Nat.{ℕ, _≤_, _<_}
-use mathlib.Core.Bool.{Bool, true, false}
+use mathlib.Core.Bool.{true, false}
 use mathlib.Core.List.{List}
-use mathlib.Core.Path.{_≡_, refl}
+use mathlib.Core.Path.{_≡_}
 use native.Mathlib.Omega.{arith}
 use lib.Dec.{eqb}
 use lib.ListN.{length}
-use borrow.Author.Tests.{eqb-true, eqb-false, eq-eqb, ne-eqb}
+use borrow.Author.Tests.{eqb-true, eq-eqb, ne-eqb}
 use Rattle.model.specs.Limits.{maxAgents}
 use Rattle.model.specs.Sheet.{choresOf, asRead}
 use Rattle.model.specs.Algorithm.{State}
@@ -15,9 +15,10 @@ use Rattle.model.specs.MostMoves.{mostEver}
 use Rattle.model.specs.Refusals.{sheetRefusal}
 use Rattle.model.specs.Promises.{Demand3, FewMoves}
 use Rattle.sheet.proofs.Refusal.{valid}
+use Rattle.algorithm.specs.RunMoves.{stateIn}
 use Rattle.algorithm.specs.Theorem.{Theorem}
-use Rattle.algorithm.proofs.Theorem.{theorem}
-use Rattle.allocation.specs.Final.{accepts, finalBy, finalOf}
+use Rattle.algorithm.proofs.Theorem.{theorem, ends-then}
+use Rattle.allocation.specs.Final.{accepts, finalOf}
 use Rattle.runs.proofs.Running.{most-moves, ended-shaped}
 
 module _ (s : List ℕ) where
@@ -34,15 +35,12 @@ module _ (s : List ℕ) where
   accepted e = eqb-true (sheetRefusal s) 0 e
 
   module _ (z : sheetRefusal s ≡ 0) where
-    by-case : (P : State → Type 0) → ((T : Theorem s) → P (T .final)) → (t : Bool) (e : eqb (sheetRefusal s) 0 ≡ t) → P (finalBy s t e)
-    unfolding finalBy
-    by-case P h true e = h (theorem s (eqb-true (sheetRefusal s) 0 e))
-    by-case P h false e = absurd (eqb-false (sheetRefusal s) 0 e z)
-
     -- what the theorem says of its final state holds of this one
     final-theorem : (P : State → Type 0) → ((T : Theorem s) → P (T .final)) → P (finalOf s)
-    unfolding finalOf
-    final-theorem P h = by-case P h (eqb (sheetRefusal s) 0) refl
+    unfolding finalOf stateIn
+    final-theorem P h =
+        let T = theorem s z in
+        rw (ends-then s z (T .final) (T .demand3 .ends)) (h T)
 
     pub final-demand3 : Demand3 s (finalOf s)
     final-demand3 = final-theorem (Demand3 s) (λ T. T .demand3)

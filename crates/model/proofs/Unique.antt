@@ -14,7 +14,7 @@ meet f j k d e = sym d ∙ ap f (add-comm j k) ∙ e
 
 module _ (I : Instance) where
   -- a step from the end changes nothing and hands nothing over
-  stays : (j k : ℕ) {s : State} → after I k ≡ done s → after I (k + j) ≡ after I k
+  pub stays : (j k : ℕ) {s : State} → after I k ≡ done s → after I (k + j) ≡ after I k
   unfolding next after
   stays zero k e = ap (after I) (add-zero k)
   stays (suc j) k e = ap (after I) (add-suc k j) ∙ ap (next I) (stays j k e ∙ e) ∙ sym e

@@ -22,7 +22,7 @@ use Rattle.records.proofs.Bytes.{record-length}
 use Rattle.sheet.specs.Valid.{Valid}
 use Rattle.sheet.proofs.Refusal.{accepted, record-room, recorded-taken}
 use Rattle.algorithm.proofs.Theorem.{few-of}
-use Rattle.algorithm.proofs.RunMoves.{moves-of, moves-are}
+use Rattle.algorithm.proofs.RunMoves.{run-of, moves-are}
 use Rattle.allocation.specs.Shared.{Shared, SharedWith}
 use Rattle.allocation.proofs.Accepting.{is-fine}
 use Rattle.recorded.specs.Moves.{movesFor}
@@ -31,7 +31,7 @@ use Rattle.recorded.specs.Moves.{movesFor}
 pub counts-them : {s x p lent bytes : List ℕ} {moves cuts : ℕ} → Valid s → Shared s x p lent bytes moves cuts → moves ≡ length (movesFor s)
 unfolding movesFor
 counts-them {s} v S =
-    let R = moves-of s .run (accepted s v) in
+    let R = run-of s (accepted s v) in
     let E = S .ended .ends in
     sym (R .leads .count ∙ ap (λ y. y .moves) (unique (asRead s) (R .ends .steps) (E .steps) (R .final) _ (R .ends .ends) (E .ends)))
 
@@ -40,9 +40,9 @@ pub most-fit : {s : List ℕ} {most : ℕ} (bytes : ℕ) → Valid s → most �
 unfolding recordRefusal movesFor
 most-fit {s} {most} bytes v is e =
     let valid = accepted s v in
-    let R = moves-of s .run valid in
+    let R = run-of s valid in
     let room = record-room most bytes e in
-    cond-false _ _ (le-ltb bytes (moveSize * length (moves-of s .moves)) (omega (arith, room, is, R .leads .count, few-of s valid (R .final) (R .ends) .inAll)))
+    cond-false _ _ (le-ltb bytes (moveSize * length (movesFor s)) (omega (arith, room, is, R .leads .count, few-of s valid (R .final) (R .ends) .inAll)))
 
 -- the moves fit, so they stand first and the rest is kept
 written : {moves : List Move} {lent bytes : List ℕ} → moveSize * length moves ≤ length lent → Holding moves lent bytes → Written moves lent bytes
@@ -65,7 +65,7 @@ module _ {s owners prices scratch lent : List ℕ} where
   refused-kept e h =
       record {
         moves = movesFor s;
-        run = moves-of s .run;
+        run = run-of s;
         notRefused = λ z. absurd (h (e ∙ z));
         turnedDown = λ n. (record { answer = ap refused e; ownersKept = refl; pricesKept = refl; scratchKept = refl }, refl);
       }
@@ -78,7 +78,7 @@ module _ {s owners prices scratch lent : List ℕ} where
       let noted = subst (λ moves. Holding moves lent bytes) (sym (moves-are s valid (S .ends))) (S .noted) in
       record {
         moves = movesFor s;
-        run = moves-of s .run;
+        run = run-of s;
         notRefused = λ _. (S .allocated, written (room .1) noted);
         turnedDown = λ n. absurd (n e);
       }

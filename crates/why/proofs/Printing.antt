@@ -6,7 +6,7 @@ use mathlib.Core.Path.{_≡_}
 use Rattle.model.specs.Contents.{sheetOf}
 use Rattle.model.specs.Algorithm.{State}
 use Rattle.model.specs.Record.{Move}
-use Rattle.algorithm.proofs.RunMoves.{moves-of}
+use Rattle.algorithm.proofs.RunMoves.{run-of}
 use Rattle.allocation.specs.Final.{finalOf}
 use Rattle.allocation.proofs.Final.{final-demand3}
 use Rattle.recorded.specs.Moves.{movesFor}
@@ -27,7 +27,7 @@ module _ (book : List ℕ) where
   -- the final states and the moves that the contracts speak of are those of the share-outs
   pub runs-of : Runs book finals moves
   unfolding movesFor
-  runs-of = record { demand3 = λ j l z. final-demand3 (sheetOf book j) z; runs = λ j l z. moves-of (sheetOf book j) .run z }
+  runs-of = record { demand3 = λ j l z. final-demand3 (sheetOf book j) z; runs = λ j l z. run-of (sheetOf book j) z }
 
   -- Texts that are as `sheet_text` promises for each sheet, and a last one that is as `print_sheets` promises, make the text of the book.
   pub whole-text : (texts : ℕ → List ℕ) (last : List ℕ) → ((j : ℕ) → j < toPrint book → texts j ≡ sheetText printer book j) → last ≡ lastOf printer book → Printed book (joined texts (toPrint book) ++ last)
