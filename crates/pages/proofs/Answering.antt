@@ -15,25 +15,25 @@ use Rattle.model.specs.Algorithm.{State}
 use Rattle.model.specs.Refusals.{sheetRefusal}
 use Rattle.model.specs.Replies.{shareOutReply, refused, shared}
 use Rattle.model.specs.Promises.{SharedOut, NotShared}
-use Rattle.sheet.proofs.Refusal.{valid}
+use Rattle.sheet.proofs.Refusal.{valid, accepted}
 use Rattle.allocation.specs.Final.{finalOf}
 use Rattle.allocation.proofs.Final.{final-demand3, owners-long, prices-long}
 use Rattle.text.specs.Put.{Put}
 use Rattle.text.specs.Lines.{refusedLine}
 use Rattle.text.proofs.Putting.{put-more}
 use Rattle.tally.specs.Counting.{movesIn, cutsIn}
-use Rattle.pages.specs.Printer.{Printer, textOf, addsOf}
+use Rattle.pages.specs.Printer.{Printer, Unbroken, textOf, addsOf}
 use Rattle.pages.specs.Answered.{Ran, Left, Answered}
 
 -- a share-out is turned down with its number, or comes back with its final state
-module _ (P : Printer) {s owners prices scratch owners′ prices′ scratch′ : List ℕ} {number : ℕ} {r : ShareOut} (is : number ≡ P .refusal s) (some : number ≡ 0 → SharedOut s owners prices scratch owners′ prices′ scratch′ r) (none : (number ≡ 0 → ⊥) → NotShared number owners prices scratch owners′ prices′ scratch′ r) where
+module _ (P : Printer) (unbroken : Unbroken P) {s owners prices scratch owners′ prices′ scratch′ : List ℕ} {number : ℕ} {r : ShareOut} (is : number ≡ P .refusal s) (some : number ≡ 0 → SharedOut s owners prices scratch owners′ prices′ scratch′ r) (none : (number ≡ 0 → ⊥) → NotShared number owners prices scratch owners′ prices′ scratch′ r) where
   module _ (z : number ≡ 0) where
-    unbroken : sheetRefusal s ≡ 0
-    unbroken = P .unbroken s (sym is ∙ z)
+    taken : sheetRefusal s ≡ 0
+    taken = unbroken s (sym is ∙ z)
 
     -- Algorithm 1 ends in one state
     final-is : some z .final ≡ finalOf s
-    final-is = final-demand3 s unbroken .only (some z .final) (some z .demand3 .ends)
+    final-is = final-demand3 s taken .only (some z .final) (some z .demand3 .ends)
 
     answer-is : shareOutReply r ≡ shared (finalOf s .moves) (finalOf s .cuts)
     answer-is = some z .answer ∙ ap (λ (x : State). shared (x .moves) (x .cuts)) final-is
@@ -41,7 +41,7 @@ module _ (P : Printer) {s owners prices scratch owners′ prices′ scratch′ :
   module _ (o : maxChores ≤ length owners′) (p : maxChores ≤ length prices′) where
     left : number ≡ 0 → (count cuts : ℕ) → r ≡ ShareOut.Shared count cuts → Left P s count cuts owners′ prices′
     left z count cuts e =
-        let v = valid s (unbroken z) in
+        let v = valid s (taken z) in
         let q : shared count cuts ≡ shared (finalOf s .moves) (finalOf s .cuts) = sym (ap shareOutReply e) ∙ answer-is z in
         record {
           accepted = sym is ∙ z;
@@ -70,13 +70,13 @@ module _ (P : Printer) {s owners prices scratch owners′ prices′ scratch′ :
           sharedOut = λ count cuts e. let q : shared count cuts ≡ refused number = sym (ap shareOutReply e) ∙ none h .answer in let w : _≡_ {A = ℕ} 0 1 = cc in absurd (omega arith);
         })
 
--- an accepted sheet has an entry for each chore
-module _ (P : Printer) {s owners prices : List ℕ} {count cuts : ℕ} (z : P .refusal s ≡ 0) (R : Ran s count cuts owners prices) where
+-- a sheet that was shared out has an entry for each chore
+module _ {s owners prices : List ℕ} {count cuts : ℕ} (R : Ran s count cuts owners prices) where
   pub owners-few : length owners ≤ maxChores
-  owners-few = omega (arith, ap length (R .ownersAre), owners-long s (P .unbroken s z), R .valid .choresFit)
+  owners-few = omega (arith, ap length (R .ownersAre), owners-long s (accepted s (R .valid)), R .valid .choresFit)
 
   pub prices-few : length prices ≤ maxChores
-  prices-few = omega (arith, ap length (R .pricesAre), prices-long s (P .unbroken s z), R .valid .choresFit)
+  prices-few = omega (arith, ap length (R .pricesAre), prices-long s (accepted s (R .valid)), R .valid .choresFit)
 
 module _ {P : Printer} {s owners prices : List ℕ} {answer : ShareOut} (A : Answered P s owners prices answer) where
   pub refused-text : {k r most : ℕ} {out out′ : List ℕ} (number : ℕ) → answer ≡ ShareOut.Refused k → Put 56 (refusedLine number k) out 0 out′ r → 56 ≤ most → Put most (textOf P s number) out 0 out′ r

@@ -28,7 +28,7 @@ use Rattle.text.specs.Text.{joined}
 use Rattle.text.specs.Put.{Put}
 use Rattle.text.specs.Lines.{bookRefusedLine, totalLine}
 use Rattle.pages.specs.declared.SheetText.{SheetText}
-use Rattle.pages.specs.Printer.{Printer, toPrint, lastText, textOf, addsOf, sheetText, tallyTo, lastOf}
+use Rattle.pages.specs.Printer.{Printer, Unbroken, toPrint, lastText, textOf, addsOf, sheetText, tallyTo, lastOf}
 use Rattle.pages.specs.Printing.{Shows, SheetShown, Passed}
 use Rattle.pages.specs.Answered.{Answered}
 use Rattle.pages.proofs.Answering.{adds-moves, adds-cuts}
@@ -74,9 +74,9 @@ module _ (P : Printer) (book : List ℕ) where
       }
 
   -- how much a sheet adds to the tally at most
-  adds-few : (counted : State → ℕ) (top : ℕ) → ((s : List ℕ) → sheetRefusal s ≡ 0 → counted (finalOf s) ≤ top) → (s : List ℕ) → addsOf P counted s ≤ top
+  adds-few : Unbroken P → (counted : State → ℕ) (top : ℕ) → ((s : List ℕ) → sheetRefusal s ≡ 0 → counted (finalOf s) ≤ top) → (s : List ℕ) → addsOf P counted s ≤ top
   unfolding addsOf
-  adds-few counted top few s = cond-le (eqb (P .refusal s) 0) (λ t. few s (P .unbroken s (eqb-true (P .refusal s) 0 t))) (λ t. zero-le)
+  adds-few unbroken counted top few s = cond-le (eqb (P .refusal s) 0) (λ t. few s (unbroken s (eqb-true (P .refusal s) 0 t))) (λ t. zero-le)
 
   -- before any sheet
   pub begin : {out : List ℕ} {total : Tally} → (total .moves ≡ 0) × (total .cuts ≡ 0) → Passed P book out out total 0
@@ -85,12 +85,12 @@ module _ (P : Printer) (book : List ℕ) where
 
   -- from sheet to sheet
   module _ {out out′ out″ : List ℕ} {total : Tally} {j : ℕ} {r : SheetText} (l : j < toPrint book) (Q : Passed P book out out′ total j) (S : SheetShown P book j out″ r) where
-    pub fitting : Fitting total (movesIn (r .answer)) (cutsIn (r .answer))
+    pub fitting : Unbroken P → Fitting total (movesIn (r .answer)) (cutsIn (r .answer))
     unfolding tallyTo
-    fitting =
+    fitting unbroken =
         let I = in-book book l in
-        let moved = adds-few (λ x. x .moves) mostEver few-moves in
-        let cut = adds-few (λ x. x .cuts) maxAgents (λ s z. le-of-lt (few-cuts s z)) in
+        let moved = adds-few unbroken (λ x. x .moves) mostEver few-moves in
+        let cut = adds-few unbroken (λ x. x .cuts) maxAgents (λ s z. le-of-lt (few-cuts s z)) in
         let few : j < maxSheets = omega (arith, I .below, I .fits .sheetsFit) in
         record {
           moves = omega (arith, Q .moves, S .moves, moved (sheetOf book j), sum-at-most j mostEver (λ i m. moved (sheetOf book i)));

@@ -14,10 +14,12 @@ use Rattle.text.specs.Lines.{refusedLine, bookRefusedLine, totalLine}
 pub record Printer : Type 0 where
   -- the number that a sheet is refused with, 0 for an accepted one
   pub refusal : List ℕ → ℕ
-  -- an accepted sheet breaks no rule
-  pub unbroken : (s : List ℕ) → refusal s ≡ 0 → sheetRefusal s ≡ 0
   -- the lines of an accepted sheet under its number
   pub lines : List ℕ → ℕ → List ℕ
+
+-- an accepted sheet breaks no rule
+abbrev pub Unbroken : Printer → Type 0
+Unbroken P = (s : List ℕ) → P .refusal s ≡ 0 → sheetRefusal s ≡ 0
 
 module _ (book : List ℕ) where
   -- so many sheets are printed: none of a refused book

@@ -30,7 +30,7 @@ use Rattle.shares.specs.Printing.{printer, textMost, textRoom, Wide}
 pub answered : {s owners prices scratch owners′ prices′ scratch′ : List ℕ} {r : ShareOut} → maxChores ≡ length owners → maxChores ≡ length prices → scratchSize ≡ length scratch → length owners′ ≡ length owners → length prices′ ≡ length prices → Allocated s owners prices scratch owners′ prices′ scratch′ r → Answered printer s owners′ prices′ r
 answered {s} {owners} {prices} {scratch} o p c o′ p′ A =
     let is = sheet-decides s (length owners) (length prices) (length scratch) (omega arith) (omega arith) (omega arith) in
-    answering.answered printer is (A .notRefused) (A .turnedDown) (omega arith) (omega arith)
+    answering.answered printer (λ s z. z) is (A .notRefused) (A .turnedDown) (omega arith) (omega arith)
 
 -- the entries of an accepted sheet are cut out of the lists
 module _ {s owners prices : List ℕ} {count cuts m : ℕ} (L : Left printer s count cuts owners prices) (e : m ≡ choresOf s) where
@@ -38,8 +38,8 @@ module _ {s owners prices : List ℕ} {count cuts m : ℕ} (L : Left printer s c
   left-wide room =
       let cut : m - 0 ≡ choresOf s = omega arith in
       record {
-        ownersFew = rw cut (answering.owners-few printer (L .accepted) (L .ran));
-        pricesFew = rw cut (answering.prices-few printer (L .accepted) (L .ran));
+        ownersFew = rw cut (answering.owners-few (L .ran));
+        pricesFew = rw cut (answering.prices-few (L .ran));
         room = room;
       }
 

@@ -13,7 +13,6 @@ abbrev pub printer : Printer
 printer =
     record {
       refusal = sheetRefusal;
-      unbroken = λ s z. z;
       lines = λ s number. sharedLines number (finalOf s .moves) (finalOf s .cuts) (finalOf s .owners) (finalOf s .prices);
     }
 

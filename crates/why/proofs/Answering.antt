@@ -11,17 +11,23 @@ use Rattle.model.specs.Limits.{maxChores, scratchSize}
 use Rattle.model.specs.Record.{moveSize, recordOf}
 use Rattle.model.specs.Refusals.{_orElse_, sheetRefusal, recordRefusal, recordedRefusal}
 use Rattle.model.specs.Promises.{Recorded}
-use Rattle.sheet.proofs.OrElse.{or-else-first}
+use Rattle.sheet.proofs.OrElse.{or-else-zero, or-else-first}
 use Rattle.sheet.proofs.Refusal.{recorded-taken}
 use Rattle.allocation.specs.Final.{finalOf}
 use Rattle.allocation.proofs.Accepting.{sheet-decides}
 use Rattle.allocation.proofs.Final.{final-demand3}
 use Rattle.algorithm.proofs.RunMoves.{moves-are}
 use Rattle.recorded.specs.Moves.{movesFor}
+use Rattle.pages.specs.Printer.{Unbroken}
 use Rattle.pages.specs.Answered.{Answered}
 use Rattle.pages.proofs.Answering as answering
 use Rattle.why.specs.Page.{recordSize, runRefusal}
 use Rattle.why.specs.Told.{printer, refusalOf, Noted}
+
+-- an accepted sheet breaks no rule
+pub unbroken : Unbroken printer
+unfolding runRefusal
+unbroken s z = or-else-zero (sheetRefusal s) (recordRefusal (length (movesFor s)) recordSize) z .0
 
 -- what is lent, and what comes back
 module _ {s owners prices scratch bytes owners′ prices′ scratch′ bytes′ : List ℕ} {r : ShareOut} (o : maxChores ≡ length owners) (p : maxChores ≡ length prices) (c : scratchSize ≡ length scratch) (b : recordSize ≡ length bytes) (R : Recorded s owners prices scratch bytes owners′ prices′ scratch′ bytes′ r) where
@@ -47,17 +53,17 @@ module _ {s owners prices scratch bytes owners′ prices′ scratch′ bytes′ 
 
   pub answered : length owners′ ≡ length owners → length prices′ ≡ length prices → Answered printer s owners′ prices′ r
   answered o′ p′ =
-      answering.answered printer number-is
+      answering.answered printer unbroken number-is
       (λ z. R .notRefused z .0 .notRefused (recorded-taken s (length owners) (length prices) (length scratch) (length (R .moves)) (length bytes) z .0))
       (λ h. R .turnedDown h .0) (omega arith) (omega arith)
 
   pub noted : length bytes′ ≡ length bytes → refusalOf s ≡ 0 → Noted s bytes′
   noted b′ accepted =
-      let unbroken = printer .unbroken s accepted in
+      let fine = unbroken s accepted in
       let z : number ≡ 0 = number-is ∙ accepted in
       let taken = recorded-taken s (length owners) (length prices) (length scratch) (length (R .moves)) (length bytes) z in
       record {
         sized = b′ ∙ sym b;
-        fit = omega (arith, count-same unbroken, taken .1);
-        first = ap (λ k. take (moveSize * k) bytes′) (sym (count-same unbroken)) ∙ R .notRefused z .1 .first ∙ ap recordOf (moves-same unbroken);
+        fit = omega (arith, count-same fine, taken .1);
+        first = ap (λ k. take (moveSize * k) bytes′) (sym (count-same fine)) ∙ R .notRefused z .1 .first ∙ ap recordOf (moves-same fine);
       }

@@ -37,8 +37,8 @@ module _ {s owners prices bytes opened : List ℕ} {count cuts : ℕ} (O : Openi
       record {
         openedFew = omega (arith, O .openedSized, O .ran .valid .choresFit);
         bytesFew = O .bytesFew;
-        ownersFew = owners-few printer (O .accepted) (O .ran);
-        pricesFew = prices-few printer (O .accepted) (O .ran);
+        ownersFew = owners-few (O .ran);
+        pricesFew = prices-few (O .ran);
         room = room;
       }
 

@@ -7,9 +7,7 @@ use Rattle.model.specs.Limits.{maxChores}
 use Rattle.model.specs.Sheet.{choresOf, asRead}
 use Rattle.model.specs.Algorithm.{opening}
 use Rattle.model.specs.Record.{Move, moveSize, recordOf}
-use Rattle.model.specs.Refusals.{sheetRefusal, recordRefusal}
 use Rattle.sheet.specs.Valid.{Valid}
-use Rattle.sheet.proofs.OrElse.{or-else-zero}
 use Rattle.allocation.specs.Final.{finalOf}
 use Rattle.recorded.specs.Moves.{movesFor}
 use Rattle.text.specs.Put.{Put}
@@ -21,17 +19,11 @@ use Rattle.why.specs.Page.{recordSize, runLines, runRefusal}
 abbrev pub refusalOf : List ℕ → ℕ
 refusalOf s = runRefusal s (movesFor s)
 
--- an accepted sheet breaks no rule
-pub unbroken : (s : List ℕ) → refusalOf s ≡ 0 → sheetRefusal s ≡ 0
-unfolding runRefusal
-unbroken s z = or-else-zero (sheetRefusal s) (recordRefusal (length (movesFor s)) recordSize) z .0
-
 -- a sheet by that number, or by the one state and the moves in which its run ends
 abbrev pub printer : Printer
 printer =
     record {
       refusal = refusalOf;
-      unbroken = unbroken;
       lines = λ s number. runLines number (finalOf s .moves) (finalOf s .cuts) (opening (asRead s) .owners) (movesFor s) (finalOf s .owners) (finalOf s .prices);
     }
 

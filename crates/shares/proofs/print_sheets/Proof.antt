@@ -51,7 +51,7 @@ tallied-requires : tie.Need-tallied-requires Inv-loop μ-loop
 tallied-requires c κs =
     let shown = c .before .before .before .before .before in
     let test = shown .before .before in
-    fitting printer _ (inside test) (test .before .loop .inv) (shown .sheet-text .ensures)
+    fitting printer _ (inside test) (test .before .loop .inv) (shown .sheet-text .ensures) (λ s z. z)
 
 add-j : tie.Need-add-j Inv-loop μ-loop
 add-j c = search needs

@@ -8,6 +8,7 @@ use Rattle.pages.specs.Printer.{toPrint}
 use Rattle.pages.specs.Printing.{Passed}
 use Rattle.pages.proofs.Printing.{in-book, begin, fitting, onward, finish}
 use Rattle.why.specs.Told.{printer}
+use Rattle.why.proofs.Answering.{unbroken}
 use Rattle.why.proofs.print_sheets.Statement.{statement}
 use Rattle.why.proofs.print_sheets.Tie as tie
 
@@ -51,7 +52,7 @@ tallied-requires : tie.Need-tallied-requires Inv-loop μ-loop
 tallied-requires c κs =
     let shown = c .before .before .before .before .before in
     let test = shown .before .before in
-    fitting printer _ (inside test) (test .before .loop .inv) (shown .sheet-text .ensures)
+    fitting printer _ (inside test) (test .before .loop .inv) (shown .sheet-text .ensures) unbroken
 
 add-j : tie.Need-add-j Inv-loop μ-loop
 add-j c = search needs
