@@ -1,12 +1,9 @@
 -- The share-out of a sheet that breaks no rule: what the opening and the loop are given, and what the whole leaves.
 -- Assumes nothing.
-use Prim.Native.Nat.{ℕ, _-_, _≤_}
+use Prim.Native.Nat.{ℕ, _≤_}
 use mathlib.Core.List.{List}
 use mathlib.Core.Path.{_≡_, sym, ap, _∙_}
-use native.Mathlib.Omega.{arith}
-use lib.ListN.{length, take, replicate, length-replicate}
-use lib.Seq.{length-take-le}
-use Rattle.finite.proofs.Lists.{tab-const, tab-take}
+use lib.ListN.{length, replicate, length-replicate}
 use Rattle.model.specs.Sheet.{agentsOf, choresOf, asRead}
 use Rattle.model.specs.Algorithm.{opening, after}
 use Rattle.model.specs.Record.{movesIn}
@@ -14,17 +11,6 @@ use Rattle.records.proofs.Holding.{nothing-yet}
 use Rattle.opening.specs.Opened.{OpenInto, Opened}
 use Rattle.runs.specs.Runs.{Running, Kit}
 use Rattle.allocation.specs.Shared.{Sharing, Working, Long}
-
--- the part `xs[0..j]` of a list of one value, and its length for any list
-pub first-of : {n k j : ℕ} {xs : List ℕ} → xs ≡ replicate n 0 → j ≡ k → k ≤ n → take (j - 0) xs ≡ replicate k 0
-first-of {n} {k} {j} e q h =
-    let z : j - 0 ≡ k = omega arith in
-    rw (e, z, tab-const n 0) (tab-take {n = k} (λ i. 0) h ∙ sym (tab-const k 0))
-
-pub first-sized : {n k j : ℕ} (xs : List ℕ) → length xs ≡ n → j ≡ k → k ≤ n → length (take (j - 0) xs) ≡ k
-first-sized {n} {k} {j} xs e q h =
-    let z : j - 0 ≡ k = omega arith in
-    rw z (length-take-le k xs (rw e h))
 
 -- lists of as many entries as a sheet's chores are at most
 pub long-of : (s : List ℕ) {k : ℕ} {entitled likes : List ℕ} → choresOf s ≤ k → entitled ≡ replicate k 0 → length likes ≡ k → Long s entitled likes

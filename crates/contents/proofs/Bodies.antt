@@ -4,27 +4,15 @@ use Prim.Native.Nat.{ℕ, zero, suc, _+_, _*_, _-_, _≤_, _<_}
 use mathlib.Core.Bool.{true, false}
 use mathlib.Core.List.{List}
 use mathlib.Core.Path.{_≡_, refl, _∙_}
-use native.Mathlib.Nat.{sub-zero}
 use native.Mathlib.Omega.{arith}
 use lib.Dec.{eqb}
-use lib.ListN.{length, take, drop, length-take, length-drop}
-use lib.Seq.{take-take}
+use lib.ListN.{length}
 use borrow.Author.Tests.{eq-eqb, ne-eqb}
 use Rattle.finite.proofs.Search.{all-zero, all-next, all-fails-intro}
 use Rattle.finite.proofs.Tests.{and-intro}
 use Rattle.model.specs.Contents.{sheetCount, sheetStart, sheetSize, sheetEnd, bodyStart}
 use Rattle.contents.specs.Parts.{startsFit, bodiesFit}
 use Rattle.contents.specs.Fits.{Fits}
-
--- the part of a list from start on, size long, as code takes it: what is left from start on, and then its beginning
-module _ (xs : List ℕ) (start size : ℕ) (fit : start + size ≤ length xs) where
-  pub rest-long : size ≤ length (take (length xs - start) (drop start xs))
-  rest-long = simp (length-take, length-drop) (omega arith)
-
-  pub part-of : take (size - 0) (take (length xs - start) (drop start xs)) ≡ take size (drop start xs)
-  part-of =
-      let within : size ≤ length xs - start = omega arith in
-      rw (sub-zero, take-take)
 
 module _ (book : List ℕ) where
   -- the first body follows the contents

@@ -4,11 +4,11 @@ use Prim.Native.Nat.{ℕ, zero, suc, _+_, _-_, _≤_, _<_}
 use mathlib.Core.Bool.{Bool, true, false}
 use mathlib.Core.List.{List, [], _∷_, _++_, append-assoc, append-nil}
 use mathlib.Core.Path.{_≡_, refl, sym, ap, ap₂, _∙_}
-use native.Mathlib.Nat.{le-refl, le-of-eq}
+use native.Mathlib.Nat.{le-refl, le-of-eq, sub-zero}
 use native.Mathlib.Numerals.{add-one}
 use native.Mathlib.Omega.{arith}
-use lib.ListN.{length, getD, take, drop, set, replicate, length-append, length-drop, length-replicate, getD-replicate, take-append-drop, drop-of-length-le, List·getD-append}
-use lib.Seq.{ext-getD, sets, sets-eq, take-at, drop-drop, drop-append-add, take-suc, drop-cons, set-at, append-snoc, take-suc-set, take-all, getD-take, getD-drop, getD-at, length-take-le}
+use lib.ListN.{length, getD, take, drop, set, replicate, length-append, length-take, length-drop, length-replicate, getD-replicate, take-append-drop, drop-of-length-le, List·getD-append}
+use lib.Seq.{ext-getD, sets, sets-eq, take-at, take-take, drop-drop, drop-append-add, take-suc, drop-cons, set-at, append-snoc, take-suc-set, take-all, getD-take, getD-drop, getD-at, length-take-le}
 use Rattle.finite.specs.Lists.{tabulate, Picks, someList}
 use Rattle.finite.proofs.Tests.{clash, bool-eq, fails-of, not-yes}
 use Rattle.finite.proofs.Below.{none-below, by-top, lower}
@@ -78,6 +78,29 @@ fill-at {k} f xs i d l h = sym (getD-take k xs i d l) ∙ ap (λ ys. getD ys i d
 pub over-next : {c v : ℕ} (xs ys : List ℕ) → c < length xs → c < length ys → v ≡ getD xs c 0 → set (take c xs ++ drop c ys) c v ≡ take (c + 1) xs ++ drop (c + 1) ys
 over-next {c} {v} xs ys l m e =
     rw (drop-cons ys c 0 m, set-at (take c xs) (getD ys c 0) (drop (suc c) ys) v c (length-take-le c xs (omega arith)), add-one c, take-suc xs c 0 l, append-snoc, e)
+
+-- parts of a list, as code takes them
+
+-- `xs[0..j]` of a list of zeros, and its length for any list
+pub first-of : {n k j : ℕ} {xs : List ℕ} → xs ≡ replicate n 0 → j ≡ k → k ≤ n → take (j - 0) xs ≡ replicate k 0
+first-of {n} {k} {j} e q h =
+    let z : j - 0 ≡ k = omega arith in
+    rw (e, z, tab-const n 0) (tab-take {n = k} (λ i. 0) h ∙ sym (tab-const k 0))
+
+pub first-sized : {n k j : ℕ} (xs : List ℕ) → length xs ≡ n → j ≡ k → k ≤ n → length (take (j - 0) xs) ≡ k
+first-sized {n} {k} {j} xs e q h =
+    let z : j - 0 ≡ k = omega arith in
+    rw z (length-take-le k xs (rw e h))
+
+-- `size` entries from start on: what is left from start on, and then its beginning
+module _ (xs : List ℕ) (start size : ℕ) (fit : start + size ≤ length xs) where
+  pub rest-long : size ≤ length (take (length xs - start) (drop start xs))
+  rest-long = simp (length-take, length-drop) (omega arith)
+
+  pub part-of : take (size - 0) (take (length xs - start) (drop start xs)) ≡ take size (drop start xs)
+  part-of =
+      let within : size ≤ length xs - start = omega arith in
+      rw (sub-zero, take-take)
 
 -- a list lent from its middle
 

@@ -6,6 +6,7 @@ use mathlib.Core.Path.{_≡_, refl, sym, _∙_}
 use native.Mathlib.Omega.{arith}
 use lib.ListN.{length, take}
 use lib.Seq.{length-take-le}
+use Rattle.finite.proofs.Lists.{first-sized}
 use Rattle.model.specs.Limits.{maxChores}
 use Rattle.model.specs.Sheet.{agentsOf, choresOf, asRead}
 use Rattle.model.specs.Algorithm.{opening}
@@ -13,7 +14,6 @@ use Rattle.model.specs.Record.{moveSize}
 use Rattle.opening.specs.Opened.{OpenInto}
 use Rattle.recorded.specs.Moves.{movesFor}
 use Rattle.allocation.specs.Final.{finalOf}
-use Rattle.allocation.proofs.Sharing.{first-sized}
 use Rattle.text.specs.Put.{Put}
 use Rattle.pages.specs.Printer.{textOf}
 use Rattle.pages.specs.Answered.{Left}

@@ -1,7 +1,7 @@
 -- `allocation::share_in` meets its contract: the first entries of the long lists are the working lists.
 use mathlib.Core.Path.{refl}
 use borrow.Author.Needs.{needs}
-use Rattle.allocation.proofs.Sharing.{first-of, first-sized}
+use Rattle.finite.proofs.Lists.{first-of, first-sized}
 use Rattle.allocation.proofs.share_in.Statement.{statement}
 use Rattle.allocation.proofs.share_in.Tie as tie
 

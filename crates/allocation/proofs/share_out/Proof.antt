@@ -4,8 +4,8 @@ use mathlib.Core.List.{_++_}
 use mathlib.Core.Path.{_≡_, refl, ap, _∙_}
 use lib.ListN.{length, drop, replicate}
 use borrow.Author.Needs.{needs}
+use Rattle.finite.proofs.Lists.{first-sized}
 use Rattle.model.specs.Limits.{scratchSize}
-use Rattle.allocation.proofs.Sharing.{first-sized}
 use Rattle.allocation.proofs.Accepting.{Fine, is-fine, shared-out}
 use Rattle.allocation.proofs.share_out.Statement.{statement}
 use Rattle.allocation.proofs.share_out.Tie as tie

@@ -4,8 +4,9 @@ use mathlib.Core.Path.{_∙_}
 use native.Mathlib.Omega.{arith}
 use lib.ListN.{length}
 use borrow.Author.Needs.{needs}
+use Rattle.finite.proofs.Lists.{rest-long, part-of}
 use Rattle.model.specs.Contents.{sheetOf}
-use Rattle.contents.proofs.Bodies.{rest-long, part-of, entry-inside, sheet-inside}
+use Rattle.contents.proofs.Bodies.{entry-inside, sheet-inside}
 use Rattle.contents.proofs.sheet_at.Statement.{statement}
 use Rattle.contents.proofs.sheet_at.Tie as tie
 
