@@ -1,4 +1,7 @@
 // What a program's arguments ask for.
+use crate::output;
+use libc::STDERR_FILENO;
+use libc::STDOUT_FILENO;
 ghost use Rattle.program.specs.Arguments.{Asks};
 
 pub enum Asked {
@@ -33,10 +36,21 @@ fn asked_by_first() -> Asked {
 }
 
 // The program's own name counts as an argument.
-pub fn what_is_asked() -> Asked {
+fn what_is_asked() -> Asked {
     match os::arg_count() {
         0 | 1 => Asked::Run,
         2 => asked_by_first(),
         _ => Asked::Unknown,
     }
+}
+
+// Whether the program is to do its own work. What else is asked for is printed; where that fails, `failure` is said.
+pub fn to_run(usage: &[u8], version: &[u8], failure: &[u8]) -> bool {
+    match what_is_asked() {
+        Asked::Run => return true,
+        Asked::Help => output::put(STDOUT_FILENO, usage, failure),
+        Asked::Version => output::put(STDOUT_FILENO, version, failure),
+        Asked::Unknown => output::put(STDERR_FILENO, usage, failure),
+    };
+    false
 }

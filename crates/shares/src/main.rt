@@ -1,14 +1,11 @@
 // Reads one book from standard input, and prints the share-out of its sheets; or prints what its one argument asks for.
 mod page;
 
-use libc::STDERR_FILENO;
 use libc::STDIN_FILENO;
 use libc::STDOUT_FILENO;
 use pages::LastText;
 use program::arguments;
-use program::arguments::Asked;
 use program::input;
-use program::input::ReadResult;
 use program::output;
 ghost use Prim.Native.Nat.{_≤_};
 ghost use lib.ListN.{length};
@@ -17,20 +14,8 @@ ghost use Rattle.pages.specs.Printing.{Shows};
 ghost use Rattle.shares.specs.Printing.{textRoom, printer};
 
 // `whole` tells whether all before it went out.
-fn put(whole: bool, fd: i32, text: &[u8]) -> bool {
-    output::put_next(whole, fd, text, b"shares: write error")
-}
-
-fn put_usage(fd: i32) {
-    put(
-        true,
-        fd,
-        b"usage: shares < BOOK\nShares out every sheet of the book on standard input. See shares(1).\n",
-    );
-}
-
-fn put_version() {
-    put(true, STDOUT_FILENO, b"shares 6.2.11\n");
+fn put(whole: bool, text: &[u8]) -> bool {
+    output::put_next(whole, STDOUT_FILENO, text, b"shares: write error")
 }
 
 // The sheets, each as soon as its text is made. What comes after them is left in the buffer.
@@ -46,7 +31,7 @@ fn print_sheets(book: &[u8], out: &mut [u8]) -> LastText
         let shown = page::sheet_text(book, j, out);
         let end = shown.end;
         let answer = shown.answer;
-        whole = put(whole, STDOUT_FILENO, &out[0..end]);
+        whole = put(whole, &out[0..end]);
         total = tally::tallied(total, answer);
         j += 1;
     }
@@ -58,23 +43,27 @@ fn print_book(book: &[u8]) {
     let mut out = io::large_buffer();
     let last = print_sheets(book, &mut out);
     let end = last.end;
-    put(last.whole, STDOUT_FILENO, &out[..end]);
+    put(last.whole, &out[..end]);
 }
 
 // The buffer has one byte more than the longest book, so that a longer one is seen by its length, and turned down.
 fn share_out() {
     let mut book = io::large_buffer();
-    match input::read_whole(STDIN_FILENO, &mut book) {
-        ReadResult::Bytes(n) => print_book(&book[..n]),
-        ReadResult::Failed => os::fail(b"shares: read error"),
+    let read = input::read_whole(STDIN_FILENO, &mut book);
+    let size = read.size;
+    if read.whole {
+        print_book(&book[..size]);
+    } else {
+        os::fail(b"shares: read error");
     }
 }
 
 fn main() {
-    match arguments::what_is_asked() {
-        Asked::Run => share_out(),
-        Asked::Help => put_usage(STDOUT_FILENO),
-        Asked::Version => put_version(),
-        Asked::Unknown => put_usage(STDERR_FILENO),
+    if arguments::to_run(
+        b"usage: shares < BOOK\nShares out every sheet of the book on standard input. See shares(1).\n",
+        b"shares 6.2.11\n",
+        b"shares: write error",
+    ) {
+        share_out();
     }
 }

@@ -33,7 +33,7 @@ same-length : tie.Need-same-length Inv-loop μ-loop
 same-length c = search needs
 
 returns : tie.Need-returns Inv-loop μ-loop
-returns c = search needs
+returns c = counts _ _ (search needs)
 
 sub-count : tie.Need-sub-count Inv-loop μ-loop
 sub-count c = search needs
