@@ -1,4 +1,4 @@
-// What step 2b reads off the agents' price sums, price up to one and groups.
+// What is read off the agents' price sums, prices up to one and groups.
 ghost use mathlib.Core.Path.{_≡_};
 ghost use Prim.Native.Nat.{_≤_, _<_};
 ghost use lib.ListN.{length, getD};

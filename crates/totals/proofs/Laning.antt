@@ -22,7 +22,7 @@ use Rattle.totals.specs.Totals.{Held}
 use Rattle.totals.specs.Lanes.{laneCount, lanesSize, laneSum, Laned}
 use Rattle.totals.proofs.Summing.{owner, owner-room}
 
--- its place in lane q
+-- the place of chore c's owner in lane q
 abbrev place : List ℕ → ℕ → ℕ → ℕ
 place owners c q = maxAgents * q + owner owners c
 
