@@ -8,8 +8,8 @@ use borrow.Author.Tests.{eq-eqb, ne-eqb}
 use Rattle.model.specs.Contents.{sheetCount, sheetOf}
 use Rattle.model.specs.Refusals.{contentsRefusal, lookupRefusal}
 use Rattle.model.specs.Promises.{lookup}
+use Rattle.model.proofs.Range.{range-facts}
 use Rattle.sheet.proofs.OrElse.{or-else-zero, when-none}
-use Rattle.sheet.proofs.Refusal.{range-facts}
 use Rattle.contents.specs.Fits.{SheetInBook}
 use Rattle.contents.proofs.Refusal.{fits}
 

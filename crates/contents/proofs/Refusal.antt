@@ -1,52 +1,44 @@
 -- Laws of a book's refusal: what each test decides, and what 0 means.
 -- Assumes nothing.
 use Prim.Native.Nat.{ℕ, _+_, _*_, _≤_, _<_}
-use mathlib.Core.Bool.{true, false, _&&_}
+use mathlib.Core.Bool.{true, false, not, _&&_}
 use mathlib.Core.List.{List}
 use mathlib.Core.Path.{_≡_, refl, sym, _∙_}
-use lib.Dec.{leb, ltb}
+use lib.Dec.{leb}
 use lib.ListN.{length}
-use borrow.Author.Tests.{lt-ltb, le-leb, lt-leb, ltb-true, leb-true, eq-eqb, eqb-true, not-false}
-use Rattle.finite.proofs.Tests.{and-elim, and-intro, and-no-left}
+use borrow.Author.Tests.{le-leb, lt-leb, leb-true, eq-eqb, eqb-true, not-true, not-false}
+use Rattle.finite.proofs.Tests.{and-elim, and-intro, and-no-left, not-off}
 use Rattle.finite.proofs.Search.{all-elim, all-intro}
-use Rattle.model.specs.Limits.{maxSheets, maxBook}
+use Rattle.model.specs.Limits.{maxSheets, maxBook, outOfRange}
 use Rattle.model.specs.Contents.{sheetCount, bookFits}
 use Rattle.model.specs.Refusals.{contentsRefusal}
+use Rattle.model.proofs.Range.{range-facts, in-range}
 use Rattle.sheet.proofs.OrElse.{when-none}
-use Rattle.contents.specs.Parts.{inRange, startsFit, bodiesFit}
+use Rattle.contents.specs.Parts.{startsFit, bodiesFit}
 use Rattle.contents.specs.Fits.{Fits}
-
--- a range, as facts
-pub range-facts : (n most : ℕ) → inRange n most ≡ true → (0 < n) × (n ≤ most)
-range-facts n most e =
-    let both = and-elim (ltb 0 n) _ e in
-    (ltb-true 0 n (both .0), leb-true n most (both .1))
-
-pub in-range : {n most : ℕ} → 0 < n → n ≤ most → inRange n most ≡ true
-in-range {n} {most} some fit = and-intro (lt-ltb 0 n some) (le-leb n most fit)
 
 module _ (book : List ℕ) where
   -- the rule in the steps of the code
   in-steps :
       bookFits book
-      ≡ inRange (length book) maxBook
-      && (inRange (sheetCount book) maxSheets
+      ≡ not (outOfRange maxBook (length book))
+      && (not (outOfRange maxSheets (sheetCount book))
       && (leb (1 + 4 * sheetCount book) (length book)
       && bodiesFit book (sheetCount book)))
   unfolding bookFits startsFit
   in-steps = refl
 
-  pub wrong-size : inRange (length book) maxBook ≡ false → bookFits book ≡ false
-  wrong-size e = in-steps ∙ and-no-left _ e
+  pub wrong-size : outOfRange maxBook (length book) ≡ true → bookFits book ≡ false
+  wrong-size e = in-steps ∙ and-no-left _ (not-off e)
 
-  module _ {k : ℕ} (count : k ≡ sheetCount book) (sized : inRange (length book) maxBook ≡ true) where
-    steps-on : bookFits book ≡ inRange k maxSheets && (leb (1 + 4 * k) (length book) && bodiesFit book k)
+  module _ {k : ℕ} (count : k ≡ sheetCount book) (sized : outOfRange maxBook (length book) ≡ false) where
+    steps-on : bookFits book ≡ not (outOfRange maxSheets k) && (leb (1 + 4 * k) (length book) && bodiesFit book k)
     steps-on = rw (in-steps, sized, count)
 
-    pub wrong-count : inRange k maxSheets ≡ false → bookFits book ≡ false
-    wrong-count e = steps-on ∙ and-no-left _ e
+    pub wrong-count : outOfRange maxSheets k ≡ true → bookFits book ≡ false
+    wrong-count e = steps-on ∙ and-no-left _ (not-off e)
 
-    module _ (counted : inRange k maxSheets ≡ true) where
+    module _ (counted : outOfRange maxSheets k ≡ false) where
       pub contents-outside : length book < 1 + 4 * k → bookFits book ≡ false
       contents-outside l = rw (steps-on, counted, lt-leb _ _ l)
 
@@ -66,12 +58,12 @@ pub fits : (book : List ℕ) → contentsRefusal book ≡ 0 → Fits book
 unfolding startsFit
 fits book z =
     let e = sym (in-steps book) ∙ book-fits book z in
-    let size = and-elim (inRange (length book) maxBook) _ e in
-    let count = and-elim (inRange (sheetCount book) maxSheets) _ (size .1) in
+    let size = and-elim (not (outOfRange maxBook (length book))) _ e in
+    let count = and-elim (not (outOfRange maxSheets (sheetCount book))) _ (size .1) in
     let there = and-elim (leb (1 + 4 * sheetCount book) (length book)) _ (count .1) in
     let bodies = and-elim (startsFit book (sheetCount book)) _ (there .1) in
-    let bytes = range-facts _ _ (size .0) in
-    let sheets = range-facts _ _ (count .0) in
+    let bytes = range-facts _ _ (not-true _ (size .0)) in
+    let sheets = range-facts _ _ (not-true _ (count .0)) in
     record {
       someByte = bytes .0;
       bytesFit = bytes .1;
@@ -89,4 +81,4 @@ accepted book f =
     let starts = all-intro _ _ (λ j l. eq-eqb _ _ (f .starts j l)) in
     let bodies = and-intro starts (eq-eqb _ _ (f .whole)) in
     not-refused book
-    (bodies-decide book refl (in-range (f .someByte) (f .bytesFit)) (in-range (f .someSheet) (f .sheetsFit)) (f .contents) ∙ bodies)
+    (bodies-decide book refl (in-range _ _ (f .someByte) (f .bytesFit)) (in-range _ _ (f .someSheet) (f .sheetsFit)) (f .contents) ∙ bodies)

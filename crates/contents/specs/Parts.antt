@@ -3,14 +3,10 @@ use Prim.Native.Nat.{ℕ, _+_, _*_, _-_, _≤_, _<_}
 use mathlib.Core.Bool.{Bool, _&&_}
 use mathlib.Core.List.{List}
 use mathlib.Core.Path.{_≡_}
-use lib.Dec.{eqb, leb, ltb}
+use lib.Dec.{eqb}
 use lib.ListN.{length}
 use Rattle.finite.specs.Search.{allBelow}
 use Rattle.model.specs.Contents.{sheetCount, sheetStart, sheetEnd, bodyStart}
-
--- from 1 to most
-abbrev pub inRange : ℕ → ℕ → Bool
-inRange n most = ltb 0 n && leb n most
 
 -- each of the first j bodies starts where the one before it ended
 unfoldable pub startsFit : List ℕ → ℕ → Bool

@@ -7,7 +7,7 @@ ghost use Rattle.model.specs.Contents.{sheetCount, sheetStart, sheetSize, bookF
 ghost use Rattle.model.specs.Refusals.{contentsRefusal, lookupRefusal};
 ghost use Rattle.model.specs.Promises.{SheetFound};
 ghost use Rattle.sheet.specs.Readers.{Read};
-ghost use Rattle.contents.specs.Parts.{inRange, bodiesFit, Contents};
+ghost use Rattle.contents.specs.Parts.{bodiesFit, Contents};
 ghost use Rattle.contents.specs.Fits.{SheetInBook};
 
 // The contents are one byte of count and an entry for each sheet: two bytes of start, two of length.
@@ -36,12 +36,6 @@ pub fn size_of(book: &[u8], j: usize) -> usize
     sheet::word_at(book, 3 + ENTRY * j) as usize
 }
 
-fn in_range(n: usize, most: usize) -> bool
-    ensures { λ r. ⌜ r ≡ inRange n most ⌝ }
-{
-    0 < n && n <= most
-}
-
 // Whether each body starts where the one before it ended, and the last one ends the book. `end` is where the bodies passed end.
 fn bodies_fit(book: &[u8], k: usize) -> bool
     requires { ⌜ Contents (now book) k ⌝ }
@@ -63,11 +57,11 @@ fn bodies_fit(book: &[u8], k: usize) -> bool
 fn contents_fit(book: &[u8]) -> bool
     ensures { λ r. ⌜ r ≡ bookFits (now (book .entry)) ⌝ }
 {
-    if !in_range(book.len(), model::MAX_BOOK) {
+    if sheet::out_of_range(book.len(), model::MAX_BOOK) {
         return false;
     }
     let k = count(book);
-    if !in_range(k, model::MAX_SHEETS) {
+    if sheet::out_of_range(k, model::MAX_SHEETS) {
         return false;
     }
     if book.len() < 1 + ENTRY * k {

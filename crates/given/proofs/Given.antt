@@ -1,21 +1,22 @@
 -- Laws of what both checks are given.
 -- Assumes nothing.
 use Prim.Native.Nat.{ℕ, _+_, _≤_, _<_}
-use mathlib.Core.Bool.{Bool, true, false, _&&_}
+use mathlib.Core.Bool.{Bool, true, false, not}
 use mathlib.Core.List.{List}
 use mathlib.Core.Path.{_≡_, _∙_}
 use native.Mathlib.Omega.{arith}
-use lib.Dec.{leb, ltb}
+use lib.Dec.{eqb, ltb}
 use lib.ListN.{length, getD}
-use borrow.Author.Tests.{eq-eqb, ne-eqb, lt-ltb, le-ltb, le-leb, lt-leb}
+use borrow.Author.Tests.{eq-eqb, ne-eqb, lt-ltb}
 use Rattle.finite.specs.Lists.{Picks}
-use Rattle.finite.proofs.Tests.{and-intro, and-no-left, and-no-right}
+use Rattle.finite.proofs.Tests.{and-intro, or-left, or-right, not-on, not-off}
 use Rattle.finite.proofs.Search.{all-zero, all-next, all-fails-intro}
-use Rattle.model.specs.Limits.{maxAgents}
+use Rattle.model.specs.Limits.{maxAgents, outOfRange}
 use Rattle.model.specs.Instance.{ownerOf}
 use Rattle.model.specs.Sheet.{agentsOf, choresOf, easyWeight, difficultWeight, asMarked}
 use Rattle.model.specs.Fairness.{entriesInRange}
 use Rattle.model.specs.Refusals.{_orElse_, sheetRefusal, ownersRefusal}
+use Rattle.model.proofs.Range.{in-range}
 use Rattle.sheet.proofs.OrElse.{or-else-zero}
 use Rattle.sheet.proofs.Judged.{owners-picks}
 use Rattle.sheet.proofs.Refusal.{valid}
@@ -28,23 +29,23 @@ unfolding entriesInRange
 range-zero n owners = all-zero _
 
 module _ (n : ℕ) (owners : List ℕ) (c : ℕ) where
-  in-range : ℕ → Bool
-  in-range k = ltb 0 (getD owners k 0) && leb (getD owners k 0) n
+  inside : ℕ → Bool
+  inside k = not (outOfRange n (getD owners k 0))
 
   pub range-next : entriesInRange n c owners ≡ true → (getD owners c 0 ≡ 0 → ⊥) → getD owners c 0 ≤ n → entriesInRange n (c + 1) owners ≡ true
-  unfolding entriesInRange in-range
+  unfolding entriesInRange inside
   range-next e some fits =
-      all-next c in-range ∙ and-intro e (and-intro (lt-ltb 0 (getD owners c 0) (omega arith)) (le-leb (getD owners c 0) n fits))
+      all-next c inside ∙ and-intro e (not-on (in-range n (getD owners c 0) (omega arith) fits))
 
   pub range-none : {m : ℕ} → c < m → getD owners c 0 ≡ 0 → entriesInRange n m owners ≡ false
-  unfolding entriesInRange in-range
+  unfolding entriesInRange inside
   range-none l e =
-      all-fails-intro in-range c l (and-no-left (leb (getD owners c 0) n) (le-ltb 0 (getD owners c 0) (omega arith)))
+      all-fails-intro inside c l (not-off (or-left (ltb n (getD owners c 0)) (eq-eqb (getD owners c 0) 0 e)))
 
   pub range-above : {m : ℕ} → c < m → n < getD owners c 0 → entriesInRange n m owners ≡ false
-  unfolding entriesInRange in-range
+  unfolding entriesInRange inside
   range-above l h =
-      all-fails-intro in-range c l (and-no-right (ltb 0 (getD owners c 0)) (lt-leb (getD owners c 0) n h))
+      all-fails-intro inside c l (not-off (or-right (eqb (getD owners c 0) 0) (lt-ltb n (getD owners c 0) h)))
 
 -- the refusals of a list of owners
 module _ (n m : ℕ) (owners : List ℕ) where

@@ -1,24 +1,25 @@
 -- The lists that the definitions admit are those that a search through all lists goes through.
 -- Assumes nothing.
 use Prim.Native.Nat.{ℕ, _≤_, _<_}
-use mathlib.Core.Bool.{true, _&&_}
+use mathlib.Core.Bool.{true, not}
 use mathlib.Core.List.{List}
 use mathlib.Core.Path.{_≡_}
-use lib.Dec.{eqb, leb, ltb}
+use lib.Dec.{eqb}
 use lib.ListN.{length, getD}
-use borrow.Author.Tests.{eqb-true, eq-eqb, ltb-true, lt-ltb, leb-true, le-leb}
-use Rattle.finite.proofs.Tests.{and-elim, and-intro}
+use borrow.Author.Tests.{eqb-true, eq-eqb, not-true}
+use Rattle.finite.proofs.Tests.{and-elim, and-intro, not-on}
 use Rattle.finite.proofs.Search.{all-elim, all-intro}
 use Rattle.finite.specs.Lists.{Picks}
+use Rattle.model.specs.Limits.{outOfRange}
 use Rattle.model.specs.Instance.{Instance}
 use Rattle.model.specs.Fairness.{entriesInRange, isAllocation}
+use Rattle.model.proofs.Range.{range-facts, in-range}
 
 -- an owner list in range: each entry is from 1 to n
 pub entry-range : (n m : ℕ) (owners : List ℕ) → entriesInRange n m owners ≡ true → (c : ℕ) → c < m → (0 < getD owners c 0) × (getD owners c 0 ≤ n)
 unfolding entriesInRange
 entry-range n m owners e c l =
-    let both = and-elim (ltb 0 (getD owners c 0)) (leb (getD owners c 0) n) (all-elim m (λ c. ltb 0 (getD owners c 0) && leb (getD owners c 0) n) e c l) in
-    (ltb-true 0 (getD owners c 0) (both .0), leb-true (getD owners c 0) n (both .1))
+    range-facts n (getD owners c 0) (not-true _ (all-elim m (λ c. not (outOfRange n (getD owners c 0))) e c l))
 
 pub range-picks : {n m : ℕ} {y : List ℕ} → length y ≡ m → entriesInRange n m y ≡ true → Picks n m y
 range-picks {n} {m} {y} size e =
@@ -27,7 +28,7 @@ range-picks {n} {m} {y} size e =
 pub picks-range : {n m : ℕ} {y : List ℕ} → Picks n m y → entriesInRange n m y ≡ true
 unfolding entriesInRange
 picks-range {n} {m} {y} p =
-    all-intro m (λ c. ltb 0 (getD y c 0) && leb (getD y c 0) n) (λ c l. and-intro (lt-ltb 0 (getD y c 0) (p .positive c l)) (le-leb (getD y c 0) n (p .bounded c l)))
+    all-intro m (λ c. not (outOfRange n (getD y c 0))) (λ c l. not-on (in-range n (getD y c 0) (p .positive c l) (p .bounded c l)))
 
 module _ (I : Instance) (y : List ℕ) where
   pub allocation-picks : isAllocation I y ≡ true → Picks (I .n) (I .m) y

@@ -1,5 +1,6 @@
 pub mod Unique
 pub mod Record
+pub mod Range
 pub mod Allocations
 pub mod Cases
 pub mod Starred

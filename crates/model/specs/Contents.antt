@@ -1,12 +1,12 @@
 -- Document 01, "The book": its contents, and the bytes of one sheet.
 use Prim.Native.Nat.{ℕ, _+_, _*_, _-_}
-use mathlib.Core.Bool.{Bool, cond, _&&_}
+use mathlib.Core.Bool.{Bool, cond, not, _&&_}
 use mathlib.Core.List.{List}
-use lib.Dec.{eqb, leb, ltb}
+use lib.Dec.{eqb, leb}
 use lib.ListN.{length, getD, take, drop}
 use Rattle.finite.specs.Search.{allBelow}
 use Rattle.finite.specs.Lists.{wordAt}
-use Rattle.model.specs.Limits.{maxSheets, maxBook}
+use Rattle.model.specs.Limits.{maxSheets, maxBook, outOfRange}
 
 -- "one byte k, the count of sheets"
 unfoldable pub sheetCount : List ℕ → ℕ
@@ -31,8 +31,8 @@ bodyStart book j = cond (eqb j 0) (1 + 4 * sheetCount book) (sheetEnd book (j - 
 -- "a book of no bytes or over 65,535, k out of range, or contents against the book's rule": none of these
 unfoldable pub bookFits : List ℕ → Bool
 bookFits book =
-    (ltb 0 (length book) && leb (length book) maxBook)
-    && ((ltb 0 (sheetCount book) && leb (sheetCount book) maxSheets)
+    not (outOfRange maxBook (length book))
+    && (not (outOfRange maxSheets (sheetCount book))
     && (leb (1 + 4 * sheetCount book) (length book)
     && (allBelow (sheetCount book) (λ j. eqb (sheetStart book j) (bodyStart book j))
     && eqb (sheetEnd book (sheetCount book - 1)) (length book))))

@@ -7,6 +7,7 @@ use lib.ListN.{length, getD}
 use Rattle.finite.specs.Sums.{sumTo, sumWhere, countTo}
 use Rattle.finite.specs.Search.{anyBelow, allBelow}
 use Rattle.finite.specs.Lists.{someList}
+use Rattle.model.specs.Limits.{outOfRange}
 use Rattle.model.specs.Instance.{Instance, cost, ownerOf}
 
 -- chore c is agent i's
@@ -56,7 +57,7 @@ dominates I y x =
 
 -- each of the first m entries, owners or prices, is a number from 1 to the limit
 unfoldable pub entriesInRange : ℕ → ℕ → List ℕ → Bool
-entriesInRange limit m xs = allBelow m (λ c. ltb 0 (getD xs c 0) && leb (getD xs c 0) limit)
+entriesInRange limit m xs = allBelow m (λ c. not (outOfRange limit (getD xs c 0)))
 
 -- "The other lists are all those of m owners from 1 to n."
 unfoldable pub isAllocation : Instance → List ℕ → Bool

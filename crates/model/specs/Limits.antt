@@ -1,5 +1,7 @@
 -- The limits of document 01, and of document 02 where a request moved them, each in one place.
 use Prim.Native.Nat.{ℕ}
+use mathlib.Core.Bool.{Bool, _||_}
+use lib.Dec.{eqb, ltb}
 
 -- "the number of people n, 1 to 32"
 abbrev pub maxAgents : ℕ
@@ -32,3 +34,7 @@ maxBook = 65535
 -- document 02, request 5: "A book's long lists need 64,000 entries"
 abbrev pub bookEntries : ℕ
 bookEntries = 64000
+
+-- 0, or above the limit
+abbrev pub outOfRange : ℕ → ℕ → Bool
+outOfRange limit k = eqb k 0 || ltb limit k

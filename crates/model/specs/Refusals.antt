@@ -6,7 +6,7 @@ use lib.Dec.{eqb, leb, ltb}
 use lib.ListN.{length}
 use Rattle.finite.specs.Search.{anyBelow}
 use Rattle.finite.specs.Packed.{bitAt, bytesFor}
-use Rattle.model.specs.Limits.{maxAgents, maxChores, maxWeight, maxPrice, scratchSize, bookEntries}
+use Rattle.model.specs.Limits.{maxAgents, maxChores, maxWeight, maxPrice, scratchSize, bookEntries, outOfRange}
 use Rattle.model.specs.Sheet.{agentsOf, choresOf, easyWeight, difficultWeight, headerSize, rowOf, sheetLength}
 use Rattle.model.specs.Strands.{agree, joinedChores, joinedSheet}
 use Rattle.model.specs.Contents.{sheetCount, bookFits}
@@ -22,10 +22,6 @@ infix 30 _when_
 -- "A number is returned only under its condition"
 abbrev pub _when_ : ℕ → Bool → ℕ
 number when condition = cond condition number 0
-
--- 0, or above the limit
-abbrev pub outOfRange : ℕ → ℕ → Bool
-outOfRange limit k = eqb k 0 || ltb limit k
 
 -- "a is 0, b ≤ a, or b above 1,000"
 abbrev pub weightsFault : ℕ → ℕ → Bool

@@ -13,20 +13,12 @@ use Rattle.finite.proofs.Search.{any-none, any-none-intro}
 use Rattle.model.specs.Limits.{maxChores, maxWeight}
 use Rattle.model.specs.Sheet.{headerSize, agentsOf, choresOf, easyWeight, difficultWeight, rowSize, rowOf, sheetLength}
 use Rattle.model.specs.Record.{moveSize}
-use Rattle.model.specs.Refusals.{_orElse_, outOfRange, weightsFault, setAfter, marksFault, headerRefusal, sheetRefusal, lentRefusal, allocateRefusal, recordRefusal, recordedRefusal}
+use Rattle.model.specs.Refusals.{_orElse_, weightsFault, setAfter, marksFault, headerRefusal, sheetRefusal, lentRefusal, allocateRefusal, recordRefusal, recordedRefusal}
+use Rattle.model.proofs.Range.{range-facts, in-range}
 use Rattle.sheet.specs.Valid.{Valid}
 use Rattle.sheet.proofs.OrElse.{or-else-zero, when-none, peel}
 
 -- the faults, as facts
-
-pub range-facts : (limit k : ℕ) → outOfRange limit k ≡ false → (0 < k) × (k ≤ limit)
-range-facts limit k e =
-    let none = or-none (eqb k 0) _ e in
-    let some : k ≡ 0 → ⊥ = eqb-false k 0 (none .0) in
-    (omega arith, ltb-false limit k (none .1))
-
-in-range : (limit k : ℕ) → 0 < k → k ≤ limit → outOfRange limit k ≡ false
-in-range limit k some fit = or-none-intro (ne-eqb k 0 (omega arith)) (le-ltb limit k fit)
 
 weights-facts : (a b : ℕ) → weightsFault a b ≡ false → (0 < a) × (a < b) × (b ≤ maxWeight)
 weights-facts a b e =

@@ -8,8 +8,9 @@ ghost use lib.ListN.{length, getD};
 ghost use Rattle.finite.specs.Lists.{wordAt};
 ghost use Rattle.finite.specs.Bits.{bit};
 ghost use Rattle.finite.specs.Packed.{bytesFor};
+ghost use Rattle.model.specs.Limits.{outOfRange};
 ghost use Rattle.model.specs.Sheet.{headerSize, agentsOf, choresOf, easyWeight, difficultWeight, rowOf, isDifficult, marksEasy, sheetLength, difficultMarks, allDifficult};
-ghost use Rattle.model.specs.Refusals.{_orElse_, _when_, outOfRange, weightsFault, setAfter, marksFault, headerRefusal, sheetRefusal, lentRefusal};
+ghost use Rattle.model.specs.Refusals.{_orElse_, _when_, weightsFault, setAfter, marksFault, headerRefusal, sheetRefusal, lentRefusal};
 ghost use Rattle.sheet.specs.Readers.{Read, Whole, RowInSheet, InSheet};
 
 pub fn byte_at(bytes: &[u8], i: usize) -> u32

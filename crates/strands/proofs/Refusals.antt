@@ -6,13 +6,14 @@ use mathlib.Core.List.{List}
 use mathlib.Core.Path.{_≡_}
 use lib.Dec.{ltb}
 use lib.ListN.{length}
-use Rattle.model.specs.Limits.{maxChores}
+use Rattle.model.specs.Limits.{maxChores, outOfRange}
 use Rattle.model.specs.Sheet.{agentsOf}
 use Rattle.model.specs.Strands.{agree, joinedChores, joinedSheet}
-use Rattle.model.specs.Refusals.{_orElse_, _when_, outOfRange, sheetRefusal, lentRefusal, strandsRefusal, joinRefusal, showRefusal}
+use Rattle.model.specs.Refusals.{_orElse_, _when_, sheetRefusal, lentRefusal, strandsRefusal, joinRefusal, showRefusal}
+use Rattle.model.proofs.Range.{range-facts}
 use Rattle.sheet.specs.Valid.{Joinable}
 use Rattle.sheet.proofs.OrElse.{or-else-zero, or-else-assoc, peel}
-use Rattle.sheet.proofs.Refusal.{valid, range-facts, lent-room}
+use Rattle.sheet.proofs.Refusal.{valid, lent-room}
 use Rattle.sheet.proofs.Strands.{joinable}
 use Rattle.strands.specs.Parts.{Headers}
 

@@ -1,38 +1,37 @@
 -- `contents::contents_fit` meets its contract: each return by its law, from the tests that led there.
-use mathlib.Core.Bool.{true}
+use mathlib.Core.Bool.{false}
 use mathlib.Core.Path.{_≡_, sym, _∙_}
 use lib.ListN.{length}
 use borrow.Author.Needs.{needs}
-use borrow.Author.Tests.{not-true, not-false}
-use Rattle.model.specs.Limits.{maxSheets, maxBook}
-use Rattle.contents.specs.Parts.{inRange}
-use Rattle.contents.proofs.Refusal.{range-facts, wrong-size, wrong-count, contents-outside, bodies-decide}
+use Rattle.model.specs.Limits.{maxSheets, maxBook, outOfRange}
+use Rattle.model.proofs.Range.{range-facts}
+use Rattle.contents.proofs.Refusal.{wrong-size, wrong-count, contents-outside, bodies-decide}
 use Rattle.contents.proofs.contents_fit.Statement.{statement}
 use Rattle.contents.proofs.contents_fit.Tie as tie
 
 -- the length is right
-sized : (c : tie.Else1) → inRange (length (c .before .before .before .args .book .now)) maxBook ≡ true
-sized c = sym (c .before .in-range .ensures) ∙ not-false _ (c .if1 .left)
+sized : (c : tie.Else1) → outOfRange maxBook (length (c .before .before .before .args .book .now)) ≡ false
+sized c = sym (c .before .out-of-range .ensures) ∙ c .if1 .left
 
 -- so is the count
-counted : (c : tie.Else2) → inRange (c .before .before .count .result) maxSheets ≡ true
-counted c = sym (c .before .in-range2 .ensures) ∙ not-false _ (c .if2 .left)
+counted : (c : tie.Else2) → outOfRange maxSheets (c .before .before .count .result) ≡ false
+counted c = sym (c .before .out-of-range2 .ensures) ∙ c .if2 .left
 
-in-range-requires : tie.Need-in-range-requires
-in-range-requires c κs = search needs
+out-of-range-requires : tie.Need-out-of-range-requires
+out-of-range-requires c κs = search needs
 
 returns : tie.Need-returns
-returns c = sym (wrong-size _ (sym (c .before .in-range .ensures) ∙ not-true _ (c .if1 .taken)))
+returns c = sym (wrong-size _ (sym (c .before .out-of-range .ensures) ∙ c .if1 .taken))
 
 count-requires : tie.Need-count-requires
 count-requires c κs = range-facts _ _ (sized c) .0
 
-in-range-requires-2 : tie.Need-in-range-requires-2
-in-range-requires-2 c κs = search needs
+out-of-range-requires-2 : tie.Need-out-of-range-requires-2
+out-of-range-requires-2 c κs = search needs
 
 returns-2 : tie.Need-returns-2
 returns-2 c =
-    let wrong = sym (c .before .in-range2 .ensures) ∙ not-true _ (c .if2 .taken) in
+    let wrong = sym (c .before .out-of-range2 .ensures) ∙ c .if2 .taken in
     sym (wrong-count _ (c .before .before .count .ensures .is) (sized (c .before .before .before)) wrong)
 
 mul-if3 : tie.Need-mul-if3
@@ -64,10 +63,10 @@ pub contents-fit-spec : {M : Type 1} → statement M
 contents-fit-spec =
     tie.close
     (tie.spec
-    in-range-requires
+    out-of-range-requires
     returns
     count-requires
-    in-range-requires-2
+    out-of-range-requires-2
     returns-2
     mul-if3
     add-if3

@@ -1,9 +1,10 @@
 -- `strands::show_refusal` meets its contract.
 use mathlib.Core.Path.{_≡_, sym, _∙_}
 use borrow.Author.Needs.{needs}
+use Rattle.model.specs.Limits.{outOfRange}
 use Rattle.model.specs.Sheet.{agentsOf}
 use Rattle.model.specs.Strands.{joinedChores}
-use Rattle.model.specs.Refusals.{_orElse_, _when_, outOfRange, showRefusal}
+use Rattle.model.specs.Refusals.{_orElse_, _when_, showRefusal}
 use Rattle.sheet.specs.Valid.{Joinable}
 use Rattle.sheet.proofs.OrElse.{or-else-stop, or-else-go}
 use Rattle.sheet.proofs.Strands.{joinable}
