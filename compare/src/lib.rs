@@ -1,11 +1,12 @@
 //! The proved library by its C interface, as safe calls on slices, and the
 //! plain C program likewise; the second program's checks beside them. Answers
-//! that C gets through pointers stay lent here, so that tests see what a refusal
-//! does to them.
+//! that C gets through pointers stay lent here, so that a comparison sees what a
+//! refusal does to them.
 
 pub mod books;
 pub mod bound;
 mod c;
+pub mod comparisons;
 pub mod damage;
 pub mod header;
 pub mod lent;

@@ -1,11 +1,11 @@
-//! Random lists and prices for the two checks, and the list check with what it
-//! writes looked at.
+//! Random lists and prices for the two checks.
 
+use crate::comparisons::list_checks::judged;
 use crate::damage::damaged;
 use crate::random::{self, Random};
 use crate::{header, shapes, Checks};
 use reference::sheet::Sheet;
-use reference::{dominates, plain, ListVerdict, PriceVerdict};
+use reference::{plain, ListVerdict, PriceVerdict};
 
 /// The share-out's list and prices, by the second program.
 pub fn shared_out(sheet: &[u8]) -> (Vec<u8>, Vec<u32>) {
@@ -122,32 +122,4 @@ fn price(random: &mut Random) -> u32 {
         3 => u32::MAX,
         _ => 1 + random.below(9) as u32,
     }
-}
-
-/// A program's list check, with what it may write looked at.
-pub fn judged(
-    program: &dyn Checks,
-    sheet: &[u8],
-    owners: &[u8],
-    lent: usize,
-    random: &mut Random,
-) -> ListVerdict {
-    let before: Vec<u8> = (0..lent + 8).map(|_| random.byte()).collect();
-    let mut after = before.clone();
-    let verdict = program.check_list(sheet, owners, &mut after[..lent]);
-    if verdict == ListVerdict::Wasteful {
-        let chores = header::chores(sheet);
-        assert!(
-            dominates(sheet, &after[..chores], owners),
-            "the list shown does not dominate: {sheet:?} {owners:?} {:?}",
-            &after[..chores]
-        );
-        assert_eq!(after[chores..], before[chores..], "written beyond m");
-    } else {
-        assert_eq!(
-            after, before,
-            "written without `wasteful`: {sheet:?} {owners:?}"
-        );
-    }
-    verdict
 }

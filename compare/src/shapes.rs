@@ -207,6 +207,16 @@ pub fn large_sheet(random: &mut Random) -> Vec<u8> {
     sheet_of(random, MAX_AGENTS, chores)
 }
 
+/// 32 agents and 200 chores, with many cuts often.
+pub fn wide_sheet(random: &mut Random) -> Vec<u8> {
+    let shape = if random.chance(30) {
+        Shape::Ladder
+    } else {
+        any_shape(random)
+    };
+    sheet(random, shape, MAX_AGENTS, 200)
+}
+
 /// Up to 4 agents and 200 chores or more, mostly as many as there may be or
 /// nearly.
 pub fn long_sheet(random: &mut Random) -> Vec<u8> {

@@ -1,13 +1,11 @@
-//! Random strands to be joined, and a library's join held to the second
-//! program's.
+//! Random strands to be joined.
 
 use crate::damage::damaged;
-use crate::lent::Lent;
 use crate::random::{weights, Random};
-use crate::{header, shapes, sizes, Library};
+use crate::{header, shapes, sizes};
+use reference::compose;
 use reference::limits::{MAX_AGENTS, MAX_CHORES, MAX_WEIGHT};
 use reference::sheet::{row_bytes, HEADER_BYTES};
-use reference::{compose, join, Join};
 
 /// The sheets of two strands, whether or not they break a rule.
 #[derive(Debug)]
@@ -139,35 +137,5 @@ pub fn lent_length(random: &mut Random, pair: &Pair) -> usize {
         1 => random.below(exact),
         2 | 3 => exact + 1 + random.below(40),
         _ => exact,
-    }
-}
-
-/// The sheet that a library joins, or its refusal number. All that was lent is
-/// held to what the second program leaves.
-pub fn joined(
-    library: &Library,
-    random: &mut Random,
-    pair: &Pair,
-    length: usize,
-) -> Result<Vec<u8>, u8> {
-    let mut lent = Lent::bytes(random, length);
-    let held = random.word() as usize;
-    let mut expected = lent.at_first().to_vec();
-    let told = match join(&pair.first, &pair.second, &mut expected) {
-        Join::Refused(number) => (number, held),
-        Join::Joined { written } => (0, written),
-    };
-    let mut written = held;
-    let number = library.join(pair, lent.part(), &mut written);
-    let got = (number, written);
-    assert_eq!(got, told, "number, written of {pair:?}, lent {length}");
-    assert!(
-        lent.holds(&expected),
-        "{pair:?}: {:?} for {expected:?}, or a byte beside them",
-        lent.now()
-    );
-    match number {
-        0 => Ok(lent.now()[..written].to_vec()),
-        number => Err(number),
     }
 }

@@ -1,12 +1,14 @@
 //! The plain C program against the proved library: every answer, and every byte that was lent. Only the dominating lists that they show
 //! may differ. The join is held to the second program's, as the proved one is elsewhere.
 
+use compare::comparisons::joins::joined;
+use compare::comparisons::list_checks::judged;
 use compare::damage::damaged;
 use compare::lent::{assert_all_hold, enough, short, Lengths, Lent};
-use compare::lists::{damaged_given, judged, near_accepted, near_fair};
+use compare::lists::{damaged_given, near_accepted, near_fair};
 use compare::random::{self, Random};
 use compare::shapes::{self, Shape};
-use compare::strands::{any_pair, joined, lent_length};
+use compare::strands::{any_pair, lent_length};
 use compare::{header, sizes, Checks, Library, PLAIN, PROVED};
 use reference::limits::MAX_CHORES;
 use reference::sheet::Sheet;

@@ -1,16 +1,16 @@
 //! The share-out against the second program: owners, prices, moves, cuts and
 //! all lent memory. No share-out takes more moves than it may.
 
-use compare::bound::{assert_few, parts};
-use compare::damage::{harm, one_or_two};
-use compare::lent::{any, assert_all_hold, enough, short, Lengths, Lent};
+use compare::bound::parts;
+use compare::comparisons::share_outs::{damaged, kept, with_enough, with_short_lists};
+use compare::damage::one_or_two;
 use compare::random::Random;
 use compare::shapes::{self, Shape};
-use compare::{header, sizes, PROVED};
+use compare::sizes;
 use reference::limits::MAX_CHORES;
 use reference::share_out::Way;
 use reference::sheet::{row_bytes, Sheet, HEADER_BYTES};
-use reference::{plain, price_bytes, share_out, ShareOut};
+use reference::{plain, share_out, ShareOut};
 
 // Sheets that keep the rules: 100,000 in all.
 const SMALL: usize = 50_000;
@@ -22,34 +22,6 @@ const LARGEST: usize = 10;
 
 const DAMAGED: usize = 45_000;
 const SHORT: usize = 40_000;
-
-/// One sheet through both programs, with every byte that was lent compared.
-fn compared(random: &mut Random, way: Way, sheet: &[u8], lengths: Lengths) -> ShareOut {
-    let mut lent = lengths.map(|length| Lent::bytes(random, length));
-    let [mut owners, mut prices, mut scratch] =
-        lent.each_ref().map(|lent| lent.at_first().to_vec());
-    let answer = price_bytes::allocate(way, sheet, &mut owners, &mut prices, &mut scratch);
-    let told = (random.word(), random.byte());
-    let expected = match answer {
-        ShareOut::Refused(number) => (number, told.0, told.1),
-        ShareOut::Shared { moves, cuts } => (0, moves, cuts),
-    };
-    let (mut moves, mut cuts) = told;
-    let [of_owners, of_prices, of_scratch] = lent.each_mut().map(Lent::part);
-    let number = PROVED.allocate(
-        sheet, of_owners, of_prices, of_scratch, &mut moves, &mut cuts,
-    );
-    let got = (number, moves, cuts);
-    assert_eq!(
-        got, expected,
-        "number, moves, cuts of {sheet:?}, lent {lengths:?}"
-    );
-    assert_all_hold(&lent, [owners, prices, scratch], sheet);
-    if let ShareOut::Shared { moves, cuts } = answer {
-        assert_few(sheet, moves, cuts);
-    }
-    answer
-}
 
 /// How many sheets have many chores that nobody likes, how many took a cut, the
 /// most moves and cuts of any, and the greatest part of each bound on moves that
@@ -81,17 +53,15 @@ fn compare_all(
     seed: u64,
     count: usize,
     way: Way,
-    sheet: impl Fn(&mut Random) -> Vec<u8>,
+    sheet: fn(&mut Random) -> Vec<u8>,
     numbers: impl IntoIterator<Item = usize>,
 ) -> Seen {
     let mut random = Random::new(seed);
     let (mut seen, mut sizes) = (Seen::default(), sizes::Seen::default());
     for _ in 0..count {
-        let sheet = sheet(&mut random);
-        let lengths = enough(&mut random, header::chores(&sheet));
-        match compared(&mut random, way, &sheet, lengths) {
-            ShareOut::Refused(number) => panic!("refused {number}: {sheet:?}"),
-            ShareOut::Shared { moves, cuts } => seen.add(&sheet, moves, cuts),
+        let (sheet, answer) = kept(&mut random, way, sheet);
+        if let ShareOut::Shared { moves, cuts } = answer {
+            seen.add(&sheet, moves, cuts);
         }
         sizes.add(&sheet);
     }
@@ -123,15 +93,7 @@ fn large_sheets() {
 /// Of 32 agents and 200 chores.
 #[test]
 fn wide_sheets() {
-    let shape = |random: &mut Random| {
-        let shape = if random.chance(30) {
-            Shape::Ladder
-        } else {
-            shapes::any_shape(random)
-        };
-        shapes::sheet(random, shape, 32, 200)
-    };
-    let seen = compare_all(14, WIDE, plain::work, shape, [200]);
+    let seen = compare_all(14, WIDE, plain::work, shapes::wide_sheet, [200]);
     assert!(seen.cut > WIDE / 3 && seen.cuts > 4, "{seen:?}");
 }
 
@@ -153,29 +115,13 @@ fn largest_sheets() {
     assert!(seen.cuts > 0 && seen.moves > 2_000, "{seen:?}");
 }
 
-/// Enough for a sheet that is still one mostly, or of any length.
-fn some_lengths(random: &mut Random, sheet: &[u8]) -> Lengths {
-    match Sheet::parse(sheet) {
-        Ok(sheet) if random.chance(80) => enough(random, sheet.chores),
-        _ => any(random),
-    }
-}
-
 #[test]
 fn damaged_sheets() {
     let mut random = Random::new(15);
     let mut numbers = [0; 9];
     for faults in one_or_two().cycle().take(DAMAGED) {
-        let mut sheet = if random.chance(2) {
-            shapes::long_sheet(&mut random)
-        } else {
-            shapes::small_sheet(&mut random)
-        };
-        for fault in faults {
-            harm(&mut random, &mut sheet, fault);
-        }
-        let lengths = some_lengths(&mut random, &sheet);
-        match compared(&mut random, plain::work, &sheet, lengths) {
+        let (_, answer) = damaged(&mut random, &faults);
+        match answer {
             ShareOut::Refused(number) => numbers[usize::from(number)] += 1,
             ShareOut::Shared { .. } => numbers[0] += 1,
         }
@@ -188,8 +134,7 @@ fn damaged_sheets() {
 
 /// The number of a sheet with enough lent for it; 0 for none.
 fn refused(random: &mut Random, sheet: &[u8]) -> u8 {
-    let lengths = enough(random, header::chores(sheet));
-    match compared(random, plain::work, sheet, lengths) {
+    match with_enough(random, plain::work, sheet) {
         ShareOut::Refused(number) => number,
         ShareOut::Shared { .. } => 0,
     }
@@ -232,9 +177,7 @@ fn short_lists() {
     let mut random = Random::new(16);
     let mut refused = 0;
     for _ in 0..SHORT {
-        let sheet = shapes::small_sheet(&mut random);
-        let lengths = short(&mut random, header::chores(&sheet));
-        let answer = compared(&mut random, share_out::work, &sheet, lengths);
+        let (_, answer) = with_short_lists(&mut random);
         refused += usize::from(answer == ShareOut::Refused(8));
     }
     assert!(refused > SHORT / 4 && refused < SHORT, "{refused}");

@@ -1,18 +1,16 @@
 //! Two strands against the second program: the joined sheet, the marks shown,
 //! and all lent memory. Each joined sheet is one that can be shared out.
 
-use compare::lent::{assert_all_hold, enough, Lent};
+use compare::comparisons::joins;
+use compare::comparisons::marks::{self, Marks};
 use compare::random::Random;
-use compare::strands::{any_pair, joined, lent_length, Pair};
-use compare::{header, show_marks, sizes, PROVED};
+use compare::sizes;
+use compare::strands::Pair;
 use reference::limits::MAX_CHORES;
-use reference::sheet::{row_bytes, Sheet, HEADER_BYTES};
-use reference::{plain, price_bytes, refusal, ShareOut, Strand};
+use reference::refusal;
+use reference::sheet::Sheet;
 
 const PAIRS: usize = 50_000;
-
-/// Joined sheets of up to so many marks are shared out.
-const SMALL: usize = 160;
 
 /// What a refusal is about.
 #[derive(Debug, Clone, Copy, PartialEq, Eq)]
@@ -60,25 +58,6 @@ impl Seen {
     }
 }
 
-/// The share-out of a joined sheet, from both programs.
-fn compare_share_outs(random: &mut Random, sheet: &[u8]) {
-    let lengths = enough(random, header::chores(sheet));
-    let mut lent = lengths.map(|length| Lent::bytes(random, length));
-    let mut expected = lent.each_ref().map(|lent| lent.at_first().to_vec());
-    let told = {
-        let [owners, prices, scratch] = &mut expected;
-        match price_bytes::allocate(plain::work, sheet, owners, prices, scratch) {
-            ShareOut::Refused(number) => panic!("refused {number}: {sheet:?}"),
-            ShareOut::Shared { moves, cuts } => (0, moves, cuts),
-        }
-    };
-    let (mut moves, mut cuts) = (random.word(), random.byte());
-    let [owners, prices, scratch] = lent.each_mut().map(Lent::part);
-    let number = PROVED.allocate(sheet, owners, prices, scratch, &mut moves, &mut cuts);
-    assert_eq!((number, moves, cuts), told, "{sheet:?}");
-    assert_all_hold(&lent, expected, sheet);
-}
-
 /// 12 before 2, 12 before 8, and the 2 of both before 8, where each would apply.
 fn before(pair: &Pair, number: u8, lent: usize) -> [bool; 3] {
     let differ = number == refusal::STRANDS;
@@ -117,22 +96,15 @@ fn joined_sheets() {
     let mut shared_out = 0;
     let (mut seams, mut sizes) = (Seams::default(), sizes::Seen::default());
     for _ in 0..PAIRS {
-        let pair = any_pair(&mut random);
-        let lent = lent_length(&mut random, &pair);
-        let answer = joined(&PROVED, &mut random, &pair, lent);
-        let number = answer.as_ref().err().copied().unwrap_or(0);
-        seen.add(&pair, number);
-        add(&mut in_order, before(&pair, number, lent));
-        let Ok(sheet) = answer else { continue };
-        add(&mut of_none, empty(&pair));
-        add_seam(&mut seams, &pair);
-        sizes.add(&sheet);
-        if header::agents(&sheet) * header::chores(&sheet) <= SMALL {
-            compare_share_outs(&mut random, &sheet);
-            shared_out += 1;
-        } else {
-            assert!(Sheet::parse(&sheet).is_ok(), "{pair:?}");
-        }
+        let joined = joins::any(&mut random);
+        let (pair, number) = (&joined.pair, joined.number());
+        seen.add(pair, number);
+        add(&mut in_order, before(pair, number, joined.lent));
+        let Ok(sheet) = &joined.answer else { continue };
+        add(&mut of_none, empty(pair));
+        add_seam(&mut seams, pair);
+        sizes.add(sheet);
+        shared_out += usize::from(joined.is_shared_out);
     }
     println!("{seen:?} {in_order:?} {of_none:?} {shared_out}");
     seen.assert_own();
@@ -147,94 +119,14 @@ fn joined_sheets() {
     assert!(seams.iter().all(often), "{seams:?}");
 }
 
-/// What is told of a row: the refusal number or 0, the strand, start and size.
-type Told = (u8, u8, usize, usize);
-
-/// What the second program tells; after a refusal the rest is as it was.
-fn expected(pair: &Pair, agent: usize, chore: usize, held: Told) -> Told {
-    let (_, strand, start, size) = held;
-    let shown = match reference::show_marks(&pair.first, &pair.second, agent, chore) {
-        Err(number) => return (number, strand, start, size),
-        Ok(shown) => shown,
-    };
-    let sheet = match shown.strand {
-        Strand::First => &pair.first,
-        Strand::Second => &pair.second,
-    };
-    let start = shown.marks.as_ptr() as usize - sheet.as_ptr() as usize;
-    (0, shown.strand as u8, start, shown.marks.len())
-}
-
-/// What both programs tell, which is of the joined sheet if there is one.
-fn shown(random: &mut Random, pair: &Pair, whole: Option<&[u8]>, of: [usize; 2]) -> u8 {
-    let [agent, chore] = of;
-    let words = [random.word() as usize, random.word() as usize];
-    let held = (0, random.byte(), words[0], words[1]);
-    let (_, mut strand, mut start, mut size) = held;
-    let number = show_marks(pair, agent, chore, &mut strand, &mut start, &mut size);
-    let got = (number, strand, start, size);
-    let told = expected(pair, agent, chore, held);
-    assert_eq!(got, told, "agent {agent}, chore {chore} of {pair:?}");
-    if number == 0 {
-        let whole = whole.expect("what can be shown can be joined");
-        assert_part(pair, whole, of, got);
-    }
-    number
-}
-
-/// The bits of some bytes, the high bit of each first.
-fn bits(bytes: &[u8]) -> Vec<bool> {
-    let of_byte = |&byte: &u8| (0..8).map(move |place| byte << place & 128 != 0);
-    bytes.iter().flat_map(of_byte).collect()
-}
-
-/// The marks told are the joined sheet's of that agent in that strand, and no
-/// bit is set after them.
-fn assert_part(pair: &Pair, whole: &[u8], [agent, chore]: [usize; 2], told: Told) {
-    let (_, strand, start, size) = told;
-    let [first, second] = pair.chores();
-    let row = header::row(whole);
-    let both = bits(&whole[HEADER_BYTES + (agent - 1) * row..][..row]);
-    let (sheet, part) = match strand {
-        1 => (&pair.first, &both[..first]),
-        2 => (&pair.second, &both[first..][..second]),
-        other => panic!("strand {other}"),
-    };
-    assert_eq!(size, row_bytes(part.len()), "{pair:?}");
-    let shown = bits(&sheet[start..][..size]);
-    let (marks, rest) = shown.split_at(part.len());
-    assert_eq!(marks, part, "{pair:?}");
-    assert!(!rest.contains(&true), "{pair:?}");
-    assert_eq!(strand == 1, chore <= first, "{pair:?}");
-}
-
-/// The chores at the seam and at the ends, one that is there or nearly, and
-/// one that is not, each for an agent who is there or nearly.
-fn places(random: &mut Random, pair: &Pair) -> [[usize; 2]; 7] {
-    let (agents, [first, second]) = (pair.agents(), pair.chores());
-    let all = first + second;
-    let some = random.below(all + 2);
-    let absent = [usize::MAX, all + 256, some + 256][random.below(3)];
-    [first, first + 1, 1, all, all + 1, some, absent].map(|chore| {
-        let agent = match random.below(16) {
-            0 => [0, agents + 1, agents + 256, usize::MAX][random.below(4)],
-            1 => agents,
-            _ => 1 + random.below(agents.max(1)),
-        };
-        [agent, chore]
-    })
-}
-
 #[test]
 fn marks_shown() {
     let mut random = Random::new(62);
     let mut seen = Seen::default();
     let mut at_the_seam = [0; 2];
     for _ in 0..PAIRS {
-        let pair = any_pair(&mut random);
-        let whole = joined(&PROVED, &mut random, &pair, pair.bytes()).ok();
-        for (place, of) in places(&mut random, &pair).into_iter().enumerate() {
-            let number = shown(&mut random, &pair, whole.as_deref(), of);
+        let Marks { pair, numbers } = marks::any(&mut random);
+        for (place, number) in numbers.into_iter().enumerate() {
             seen.add(&pair, number);
             if place < 2 {
                 at_the_seam[place] += usize::from(number == 0);
