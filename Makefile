@@ -3,7 +3,7 @@
 # Its last line is rt's own count.
 SHELL := /bin/bash
 .SHELLFLAGS := -eu -o pipefail -c
-.PHONY: all test trace ctest ctest-archive ctest-prototypes ctest-calls ctest-header cases books program installed install uninstall run bench
+.PHONY: all test trace ctest ctest-archive ctest-prototypes ctest-calls ctest-header cases books program installed install uninstall run bench soak
 
 CARGO_TEST := cargo test --offline --quiet --manifest-path
 CARGO_BUILD := cargo build --offline --quiet --release --manifest-path
@@ -72,3 +72,10 @@ run:
 # The proved share-out, both checks and the join timed beside a plain C program's (bench/plain.c) and the second program's.
 bench: $(ARCHIVE)
 	@cargo run --offline --quiet --release --manifest-path compare/Cargo.toml --bin bench
+
+# The comparisons with the second program on COUNT inputs, which SEED decides; with KIND and INPUT, on that input of that kind alone.
+COUNT := 1000000
+SEED := 1
+
+soak: $(ARCHIVE)
+	@cargo run --offline --quiet --release --manifest-path compare/Cargo.toml --bin soak -- $(COUNT) $(SEED) $(if $(INPUT),'$(KIND)' $(INPUT))

@@ -8,6 +8,7 @@ pub mod bound;
 mod c;
 pub mod comparisons;
 pub mod damage;
+mod digest;
 pub mod header;
 pub mod lent;
 mod library;
@@ -15,6 +16,7 @@ pub mod lists;
 pub mod random;
 pub mod shapes;
 pub mod sizes;
+pub mod soak;
 pub mod strands;
 
 pub use library::{Checks, Library, Second, PLAIN, PROVED};
