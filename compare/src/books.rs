@@ -4,7 +4,7 @@ use crate::damage::damaged;
 use crate::random::Random;
 use crate::{shapes, sizes};
 use reference::compose;
-use reference::limits::{MAX_CHORES, MAX_SHEETS};
+use reference::limits::{MAX_BOOK_BYTES, MAX_CHORES, MAX_SHEETS};
 
 /// 1 to 16 bodies, 16 often. Most are small sheets; some are refused.
 pub fn bodies(random: &mut Random) -> Vec<Vec<u8>> {
@@ -116,4 +116,16 @@ fn shift(book: &mut [u8], at: usize, by: i16) {
     let number = u16::from_be_bytes([book[at], book[at + 1]]);
     let number = number.wrapping_add_signed(by);
     book[at..at + 2].copy_from_slice(&number.to_be_bytes());
+}
+
+/// One of about as many bytes, or of about as many sheets, as a book may have;
+/// whole but for that.
+pub fn book_at_a_limit(random: &mut Random) -> Vec<u8> {
+    if random.chance(50) {
+        let length = MAX_BOOK_BYTES - 2 + random.below(5);
+        return compose::book(&[random.bytes(length - 5)]);
+    }
+    let count = [0, 1, 15, 16, 17, 18][random.below(6)];
+    let sheets: Vec<Vec<u8>> = (0..count).map(|_| shapes::small_sheet(random)).collect();
+    compose::book(&sheets)
 }

@@ -3,7 +3,7 @@
 
 use super::book_answers::Answers;
 use super::lookups;
-use crate::books::{bodies, damaged_book, full_book, large_book};
+use crate::books::{bodies, book_at_a_limit, damaged_book, full_book, large_book};
 use crate::bound::{assert_few, most_moves};
 use crate::lent::{enough_scratch, short_scratch, Lengths, Lent, Twins};
 use crate::random::Random;
@@ -150,4 +150,13 @@ pub fn large(random: &mut Random, lists: &mut Lists) -> (Vec<u8>, BookShareOut) 
 pub fn full(random: &mut Random, lists: &mut Lists, less: usize) -> (Vec<u8>, BookShareOut) {
     let book = full_book(random, less);
     shared_out(random, lists, book, LEAST)
+}
+
+/// One at a limit of a book's bytes or sheets, or past it.
+pub fn at_a_limit(random: &mut Random, lists: &mut Lists) -> (Vec<u8>, BookShareOut) {
+    let book = book_at_a_limit(random);
+    lookups::compared(random, &book);
+    let lengths = enough(random);
+    let answer = compared(random, lists, &book, lengths);
+    (book, answer)
 }

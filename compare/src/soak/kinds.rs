@@ -30,7 +30,7 @@ const fn kind(name: &'static str, weight: usize, compare: Compare) -> Kind {
 }
 
 /// Kinds whose inputs take long have few of them.
-pub static KINDS: [Kind; 29] = [
+pub static KINDS: [Kind; 30] = [
     kind("small sheets", 98_000, |random, _| {
         share_outs::kept(random, share_out::work, small_sheet).into()
     }),
@@ -94,8 +94,11 @@ pub static KINDS: [Kind; 29] = [
     kind("greatest prices", 1_000, |random, number| {
         price_checks::greatest(random, number % 101).into()
     }),
-    kind("whole books", 50_000, |random, _| {
+    kind("whole books", 48_000, |random, _| {
         with_lists(random, books::whole)
+    }),
+    kind("books at the limits", 2_000, |random, _| {
+        with_lists(random, books::at_a_limit)
     }),
     kind("damaged books", 50_000, |random, _| {
         with_lists(random, books::damaged)
