@@ -20,7 +20,7 @@ use Rattle.model.specs.Fairness.{dominates, isAllocation}
 use Rattle.model.specs.Algorithm.{Outcome, busy, done, lacking, after}
 use Rattle.model.specs.Record.{movesIn, recordOf}
 use Rattle.model.specs.Refusals.{sheetRefusal}
-use Rattle.model.specs.Cases.{Case, shared-out, opens, judged, spelled, lent, lent-book, recorded, lent-record, joins, lent-join, marked, asked, listed, shown, priced, Shares, Records, Meets, MeetsAll}
+use Rattle.model.specs.Cases.{Case, shared-out, lacks, opens, judged, spelled, lent, lent-book, recorded, lent-record, joins, lent-join, marked, asked, listed, shown, priced, Shares, Records, Meets, MeetsAll}
 use Rattle.model.proofs.Allocations.{allocation-picks}
 
 -- what an outcome shows of a run that has ended
@@ -50,6 +50,7 @@ dominatesToo I x z y = dominates I (ownerOf y) (ownerOf x) && differs (I .m) y z
 unfoldable pub Computed : ℕ → Case → Type 0
 Computed enough (shared-out s owners prices moves cuts) = (sheetRefusal s ≡ 0) × (seen (after (asRead s) enough) ≡ ended owners prices moves cuts)
 Computed enough (opens s owners total) = Meets (opens s owners total)
+Computed enough (lacks s x) = Meets (lacks s x)
 Computed enough (judged s k) = Meets (judged s k)
 Computed enough (spelled s bytes) = Meets (spelled s bytes)
 Computed enough (lent s owners prices scratch k) = Meets (lent s owners prices scratch k)
@@ -106,6 +107,7 @@ met : (enough : ℕ) (c : Case) → Computed enough c → Meets c
 unfolding Computed Meets
 met enough (shared-out s owners prices moves cuts) h = ran s owners prices moves cuts enough (after (asRead s) enough) (h .0) refl (h .1)
 met enough (opens s owners total) h = h
+met enough (lacks s x) h = h
 met enough (judged s k) h = h
 met enough (spelled s bytes) h = h
 met enough (lent s owners prices scratch k) h = h

@@ -12,7 +12,7 @@ use Rattle.finite.specs.Packed.{packed}
 use Rattle.model.specs.Instance.{ownerOf}
 use Rattle.model.specs.Sheet.{asMarked, asRead}
 use Rattle.model.specs.Fairness.{totalCost, dominates, isAllocation}
-use Rattle.model.specs.Algorithm.{State, opening, Ends}
+use Rattle.model.specs.Algorithm.{State, lacking, step, opening, Ends}
 use Rattle.model.specs.Record.{movesIn, recordOf}
 use Rattle.model.specs.Strands.{joinedSheet, strandMarks}
 use Rattle.model.specs.Refusals.{sheetRefusal, allocateRefusal, recordedRefusal, strandsRefusal, joinRefusal, showRefusal, bookRefusal}
@@ -53,6 +53,8 @@ pub data Case : Type 0 where
   shared-out : List ℕ → List ℕ → List ℕ → ℕ → ℕ → Case
   -- the opening list of a sheet, and what it costs in total, as the share-out reads the marks
   opens : List ℕ → List ℕ → ℕ → Case
+  -- in this state of a share-out of a sheet, whether or not a run comes to it, the step that is due lacks its chore
+  lacks : List ℕ → State → Case
   -- a sheet's refusal number, 0 where it is taken
   judged : List ℕ → ℕ → Case
   -- the bytes of a sheet or of a move
@@ -106,6 +108,7 @@ pub record Shows (s owners other : List ℕ) : Type 0 where
 unfoldable pub Meets : Case → Type 0
 Meets (shared-out s owners prices moves cuts) = Shares s owners prices moves cuts
 Meets (opens s owners total) = (opening (asRead s) .owners ≡ owners) × (totalCost (asRead s) (ownerOf owners) ≡ total)
+Meets (lacks s x) = step (asRead s) x ≡ lacking x
 Meets (judged s k) = sheetRefusal s ≡ k
 Meets (spelled s bytes) = s ≡ bytes
 Meets (lent s owners prices scratch k) = allocateRefusal s owners prices scratch ≡ k

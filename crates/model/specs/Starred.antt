@@ -1,13 +1,13 @@
 -- The cases of document 01 with a star, and more where no starred one notices a wrong definition. The theorem `starred` (proofs/Starred.antt)
 -- says that the definitions meet each of them.
-use Prim.Native.Nat.{ℕ, zero, suc, _+_, _*_, _/_, _%_}
+use Prim.Native.Nat.{ℕ, zero, suc, _/_, _%_}
 use mathlib.Core.List.{List, [], _∷_, _++_}
 use lib.ListN.{replicate}
 use Rattle.finite.specs.Packed.{bytesFor}
 use Rattle.model.specs.Record.{moveBytes}
 use Rattle.model.specs.Strands.{joinedSheet}
-use Rattle.model.specs.Replies.{refused, holds, unfair, wasteful, offPrice, accepted}
-use Rattle.model.specs.Cases.{header, sheet, row, Case, shared-out, opens, judged, spelled, lent, lent-book, recorded, lent-record, joins, lent-join, marked, asked, listed, shown, priced}
+use Rattle.model.specs.Replies.{refused, holds, unfair, wasteful, offPrice, priceEnvy, accepted}
+use Rattle.model.specs.Cases.{header, sheet, row, Case, shared-out, opens, lacks, judged, spelled, lent, lent-book, recorded, lent-record, joins, lent-join, marked, asked, listed, shown, priced}
 
 unfoldable pub sheetC : List ℕ
 sheetC = sheet 1 3 ("eeeee" ∷ "dddde" ∷ [])
@@ -15,6 +15,15 @@ sheetC = sheet 1 3 ("eeeee" ∷ "dddde" ∷ [])
 -- a book that holds only sheet C
 unfoldable pub bookC : List ℕ
 bookC = 1 ∷ 0 ∷ 5 ∷ 0 ∷ 9 ∷ sheetC
+
+-- the contents and bodies of a book of two sheets of no chores, the second of which starts at `start` and has `size` bytes
+unfoldable pub bookOfTwo : ℕ → ℕ → List ℕ
+bookOfTwo start size = 2 ∷ 0 ∷ 9 ∷ 0 ∷ 7 ∷ 0 ∷ start ∷ 0 ∷ size ∷ header 1 0 1 2 ++ header 1 0 1 2
+
+-- k entries of a start and no bytes
+unfoldable pub entries : ℕ → ℕ → List ℕ
+entries start zero = []
+entries start (suc k) = 0 ∷ start ∷ 0 ∷ 0 ∷ entries start k
 
 unfoldable pub sheetD : List ℕ
 sheetD = sheet 1 2 ("eee" ∷ "eee" ∷ [])
@@ -52,14 +61,7 @@ chores m = header 1 m 1 2 ++ replicate (bytesFor m) 0
 unfoldable pub tooMany : List ℕ
 tooMany = header 33 4001 1 2
 
--- a book of k sheets of no bytes, and one whose only sheet has k bytes
-unfoldable pub emptySheets : ℕ → ℕ → List ℕ
-emptySheets start zero = []
-emptySheets start (suc k) = 0 ∷ start ∷ 0 ∷ 0 ∷ emptySheets start k
-
-unfoldable pub sheetsOf : ℕ → List ℕ
-sheetsOf k = k ∷ emptySheets (1 + 4 * k) k
-
+-- a book whose only sheet has k bytes
 unfoldable pub bookOf : ℕ → List ℕ
 bookOf k = 1 ∷ 0 ∷ 5 ∷ k / 256 ∷ k % 256 ∷ replicate k 0
 
@@ -84,11 +86,19 @@ table =
     ∷ shared-out (sheet 2 3 ("ddddddddd" ∷ "edededddd" ∷ "edddddddd" ∷ [])) (3 ∷ 2 ∷ 2 ∷ 3 ∷ 2 ∷ 3 ∷ 1 ∷ 1 ∷ 1 ∷ []) (4 ∷ 6 ∷ 4 ∷ 6 ∷ 4 ∷ 6 ∷ 6 ∷ 6 ∷ 6 ∷ []) 8 2
     -- equal sums in 2a
     ∷ shared-out (sheet 1 3 ("ddedddddd" ∷ "ddddddddd" ∷ "dddddeddd" ∷ "edddddddd" ∷ "edddddddd" ∷ [])) (4 ∷ 1 ∷ 1 ∷ 4 ∷ 5 ∷ 3 ∷ 3 ∷ 2 ∷ 2 ∷ []) (1 ∷ 3 ∷ 1 ∷ 3 ∷ 3 ∷ 1 ∷ 3 ∷ 3 ∷ 3 ∷ []) 7 2
+    -- three cuts: group 2 has its turn in 2a before group 1, and an agent of least sum receives
+    ∷ shared-out (sheet 3 4 ("ddddddeeeeeeeeee" ∷ "dddeeedddddddddd" ∷ "deeddddddddddddd" ∷ "eddddddddddddddd" ∷ [])) (4 ∷ 3 ∷ 3 ∷ 2 ∷ 2 ∷ 2 ∷ 2 ∷ 3 ∷ 4 ∷ 3 ∷ 4 ∷ 4 ∷ 1 ∷ 1 ∷ 1 ∷ 1 ∷ []) (9 ∷ 9 ∷ 9 ∷ 9 ∷ 9 ∷ 9 ∷ 12 ∷ 12 ∷ 12 ∷ 12 ∷ 12 ∷ 12 ∷ 12 ∷ 12 ∷ 12 ∷ 12 ∷ []) 9 3
+    -- two givers of equal price-one in 2a
+    ∷ shared-out (sheet 3 4 ("ddddddeeeeeeeee" ∷ "deddddddddddddd" ∷ "ddddeeddddddddd" ∷ "ddeeddddddddddd" ∷ "edddddddddddddd" ∷ [])) (5 ∷ 2 ∷ 4 ∷ 4 ∷ 3 ∷ 3 ∷ 3 ∷ 4 ∷ 2 ∷ 5 ∷ 2 ∷ 5 ∷ 1 ∷ 1 ∷ 1 ∷ []) (9 ∷ 9 ∷ 9 ∷ 9 ∷ 9 ∷ 9 ∷ 12 ∷ 12 ∷ 12 ∷ 12 ∷ 12 ∷ 12 ∷ 12 ∷ 12 ∷ 12 ∷ []) 8 2
+    -- givers in two rings, several in one, and several who may receive
+    ∷ shared-out (sheet 2 3 ("eddeeded" ∷ "dddddddd" ∷ "deddedee" ∷ "ddeddddd" ∷ [])) (4 ∷ 3 ∷ 4 ∷ 1 ∷ 1 ∷ 2 ∷ 3 ∷ 2 ∷ []) (6 ∷ 6 ∷ 4 ∷ 6 ∷ 6 ∷ 6 ∷ 6 ∷ 6 ∷ []) 6 1
     -- document 02, request 2: three chores that all find difficult, so that counts decide; one after a chore that opened as easy and counts too;
     -- two where the agent of fewest chores is not that of least sum
     ∷ shared-out (sheet 1 3 ("ddded" ∷ "dddde" ∷ "dddee" ∷ [])) (1 ∷ 2 ∷ 3 ∷ 1 ∷ 2 ∷ []) (9 ∷ 9 ∷ 9 ∷ 3 ∷ 3 ∷ []) 0 0
     ∷ shared-out (sheet 1 3 ("edd" ∷ "dde" ∷ [])) (1 ∷ 2 ∷ 2 ∷ []) (3 ∷ 9 ∷ 3 ∷ []) 0 0
     ∷ shared-out (sheet 1 3 ("eedd" ∷ "eddd" ∷ [])) (1 ∷ 1 ∷ 1 ∷ 2 ∷ []) (3 ∷ 3 ∷ 9 ∷ 9 ∷ []) 1 0
+    -- all chores of the giver in 2a are entitled, which no run comes to
+    ∷ lacks sheetD (record { owners = 1 ∷ 1 ∷ 1 ∷ []; prices = 2 ∷ 2 ∷ 2 ∷ []; groups = 1 ∷ 2 ∷ []; entitled = 1 ∷ 1 ∷ 1 ∷ []; moves = 0; cuts = 2; stage = 1 })
     -- the list check
     ∷ listed sheetD (1 ∷ 1 ∷ 1 ∷ []) (unfair 1 2)
     ∷ listed sheetD (1 ∷ 1 ∷ 2 ∷ []) holds
@@ -96,9 +106,28 @@ table =
     ∷ shown sheetE (2 ∷ 1 ∷ []) (1 ∷ 2 ∷ [])
     -- even, for the dearest chore taken off and not for the cheapest
     ∷ listed (sheet 1 3 ("ede" ∷ "dde" ∷ [])) (1 ∷ 1 ∷ 2 ∷ []) holds
+    -- nobody envies without chores; of several pairs the first by i and then by j
+    ∷ listed (sheet 1 2 ("e" ∷ "e" ∷ "e" ∷ [])) (3 ∷ []) holds
+    ∷ listed (sheet 1 2 ("eeeeee" ∷ "eeeeee" ∷ "eeeeee" ∷ [])) (1 ∷ 1 ∷ 2 ∷ 2 ∷ 2 ∷ 2 ∷ []) (unfair 1 3)
+    -- an owner too few, which comes before a short lent list, and one too many; an owner of 0 and of 3
+    ∷ listed sheetE (1 ∷ []) (refused 6)
+    ∷ listed sheetE (1 ∷ 2 ∷ 1 ∷ []) (refused 6)
+    ∷ listed sheetE (0 ∷ 2 ∷ []) (refused 7)
+    ∷ listed sheetE (1 ∷ 3 ∷ []) (refused 7)
     -- the price check
     ∷ priced sheetC (2 ∷ 2 ∷ 1 ∷ 1 ∷ 2 ∷ []) (3 ∷ 3 ∷ 3 ∷ 3 ∷ 1 ∷ []) accepted
     ∷ priced sheetC (2 ∷ 2 ∷ 1 ∷ 1 ∷ 2 ∷ []) (3 ∷ 3 ∷ 3 ∷ 3 ∷ 3 ∷ []) (offPrice 1)
+    -- price envy, which comes after a chore off its price; equal sums are no envy
+    ∷ priced sheetC (1 ∷ 1 ∷ 1 ∷ 1 ∷ 1 ∷ []) (3 ∷ 3 ∷ 3 ∷ 3 ∷ 3 ∷ []) (priceEnvy 1 2)
+    ∷ priced sheetC (1 ∷ 1 ∷ 1 ∷ 1 ∷ 1 ∷ []) (3 ∷ 3 ∷ 3 ∷ 3 ∷ 1 ∷ []) (offPrice 5)
+    ∷ priced sheetD (1 ∷ 1 ∷ 2 ∷ []) (2 ∷ 2 ∷ 2 ∷ []) accepted
+    -- prices of 0, of 1,000,000 and of one more, and a price too few
+    ∷ priced sheetE (1 ∷ 2 ∷ []) (0 ∷ 2 ∷ []) (refused 10)
+    ∷ priced sheetE (1 ∷ 2 ∷ []) (1000000 ∷ 1000000 ∷ []) accepted
+    ∷ priced sheetE (1 ∷ 2 ∷ []) (2 ∷ 1000001 ∷ []) (refused 10)
+    ∷ priced sheetE (1 ∷ 2 ∷ []) (2 ∷ []) (refused 10)
+    -- 7 comes before 10
+    ∷ priced sheetE (1 ∷ 3 ∷ []) (0 ∷ 2 ∷ []) (refused 7)
     -- weights 2, 2
     ∷ judged (sheet 2 2 ("e" ∷ [])) 3
     -- n 32 and 33, m 4,000 and 4,001, b 1,000 and 1,001
@@ -108,6 +137,13 @@ table =
     ∷ judged (chores 4001) 2
     ∷ judged (sheet 1 1000 ("e" ∷ [])) 0
     ∷ judged (sheet 1 1001 ("e" ∷ [])) 3
+    -- no agents; an easy weight of 0, and one above the difficult weight
+    ∷ judged (header 0 0 1 2) 1
+    ∷ judged (sheet 0 2 ("e" ∷ [])) 3
+    ∷ judged (sheet 3 2 ("e" ∷ [])) 3
+    -- 2 comes before 3, and 3 before 5
+    ∷ judged (header 1 4001 2 2) 2
+    ∷ judged (header 1 1 2 2) 3
     -- two rules broken: 1 comes before 2
     ∷ judged tooMany 1
     -- document 02, request 5: sheet C's bytes
@@ -132,6 +168,18 @@ table =
     ∷ lent sheetC 5 4 64 8
     ∷ lent-book bookC 64000 64000 64 0
     ∷ lent-book bookC 64000 64000 63 8
+    ∷ lent-book bookC 63999 64000 64 8
+    ∷ lent-book bookC 64000 63999 64 8
+    -- two sheets; a gap before the second, one byte left over; no sheets; 16 sheets and 17
+    ∷ lent-book (bookOfTwo 16 7) 64000 64000 64 0
+    ∷ lent-book (bookOfTwo 17 6) 64000 64000 64 9
+    ∷ lent-book (bookOfTwo 16 6) 64000 64000 64 9
+    ∷ lent-book (0 ∷ 0 ∷ 5 ∷ 0 ∷ 0 ∷ []) 64000 64000 64 9
+    ∷ lent-book (16 ∷ entries 65 16) 64000 64000 64 0
+    ∷ lent-book (17 ∷ entries 69 17) 64000 64000 64 9
+    -- 65,535 bytes and 65,536
+    ∷ lent-book (bookOf 65530) 64000 64000 64 0
+    ∷ lent-book (bookOf 65531) 64000 64000 64 9
     -- a book's 9 comes before its 8
     ∷ lent-book [] 64000 64000 63 9
     -- the record of sheet C, and of a sheet with a move in 2a
@@ -179,17 +227,6 @@ table =
     ∷ asked strand1 strand2 1 0 9
     ∷ asked strand1 strand2 1 6 9
     ∷ asked (chores 4000) (chores 1) 2 1 2
-    -- one list of a book an entry short
-    ∷ lent-book bookC 63999 64000 64 8
-    ∷ lent-book bookC 64000 63999 64 8
-    -- 16 sheets and 17; 65,535 bytes and 65,536
-    ∷ lent-book (sheetsOf 16) 64000 64000 64 0
-    ∷ lent-book (sheetsOf 17) 64000 64000 64 9
-    ∷ lent-book (bookOf 65530) 64000 64000 64 0
-    ∷ lent-book (bookOf 65531) 64000 64000 64 9
-    -- a price of 1,000,000 and one of 1,000,001
-    ∷ priced (sheet 1 2 ("e" ∷ [])) (1 ∷ []) (1000000 ∷ []) accepted
-    ∷ priced (sheet 1 2 ("e" ∷ [])) (1 ∷ []) (1000001 ∷ []) (refused 10)
     -- a joined count above 255; no chores at all
     ∷ joins (chores 200) (chores 100) (chores 300)
     ∷ lent-join (sheet 1 3 ("" ∷ "" ∷ [])) (sheet 1 3 ("" ∷ "" ∷ [])) 7 0
