@@ -30,10 +30,10 @@ add-check-prices : tie.Need-add-check-prices
 add-check-prices c = search needs
 
 slice-reshare-prefix-check-prices : tie.Need-slice-reshare-prefix-check-prices
-slice-reshare-prefix-check-prices c = room (c .before)
+slice-reshare-prefix-check-prices c = omega (arith, room (c .before))
 
 slice-aggregate-check-prices : tie.Need-slice-aggregate-check-prices
-slice-aggregate-check-prices c = sym (length-take-le _ _ (room (c .before .before)))
+slice-aggregate-check-prices c = sym (length-take-le _ _ (omega (arith, room (c .before .before))))
 
 check-prices-requires : tie.Need-check-prices-requires
 check-prices-requires c κs = search needs
