@@ -37,6 +37,9 @@ static void test_allocate(void)
     expect("allocate", "no chores",
            shares_allocate(bare, sizeof bare, NULL, 0, NULL, 0, scratch, sizeof scratch, &moves, &cuts), SHARES_OK);
     expect("allocate", "no chores, moves and cuts", moves == 0 && cuts == 0, 1);
+    expect("allocate", "no chores, scratch 63",
+           shares_allocate(bare, sizeof bare, NULL, 0, NULL, 0, scratch, SHARES_SCRATCH - 1, &moves, &cuts),
+           SHARES_SHORT_LIST);
 }
 
 static uint8_t allocate_recorded(const uint8_t *s, size_t s_len, size_t own_len, size_t pri_len, uint8_t *record,
@@ -87,6 +90,15 @@ static void test_checks(void)
            SHARES_BAD_PRICE);
     expect("check_prices", "no chores", shares_verdict_kind(shares_check_prices(bare, sizeof bare, NULL, 0, NULL, 0)),
            SHARES_ACCEPTED);
+    /* Where there are no chores, any entry is one too many. */
+    expect("check_list", "no chores, an owner", shares_check_list(bare, sizeof bare, owners, 1, NULL, 0),
+           SHARES_BAD_OWNER_COUNT);
+    expect("check_prices", "no chores, an owner", shares_check_prices(bare, sizeof bare, owners, 1, NULL, 0),
+           SHARES_BAD_OWNER_COUNT);
+    expect("check_prices", "no chores, a price", shares_check_prices(bare, sizeof bare, NULL, 0, prices, 4),
+           SHARES_BAD_PRICE);
+    expect("check_prices", "no chores, a byte of a price", shares_check_prices(bare, sizeof bare, NULL, 0, prices, 1),
+           SHARES_BAD_PRICE);
 }
 
 /* The lists that tell of a book's sheets have no length: they are always lent. */

@@ -234,6 +234,21 @@ static void test_priced_lists(void)
     }
 }
 
+#define SIX 6
+
+/* Agent 1 envies agent 3, and agent 2 envies both others: the first pair is the first by i, and then by j. */
+static void test_first_pair(void)
+{
+    const uint8_t sheet[SHARES_SHEET_BYTES(3, SIX)] = {3, 0, SIX, 0, 1, 0, 3};
+    const uint8_t owners[SIX] = {1, 1, 2, 2, 2, 2};
+    uint8_t dominating[SIX], prices[SHARES_PRICE_BYTES * SIX];
+    for (size_t c = 0; c < SIX; c++)
+        shares_set_price(prices, c, 3);
+    expect("first pair", "unfair", shares_check_list(sheet, sizeof sheet, owners, SIX, dominating, SIX), 0x3010200);
+    expect("first pair", "price envy", shares_check_prices(sheet, sizeof sheet, owners, SIX, prices, sizeof prices),
+           0x3010600);
+}
+
 /* One agent and as many easy chores as there can be, all but one of price 2: that one is not a best one. */
 static void test_off_price(uint16_t chore)
 {
@@ -266,6 +281,7 @@ int main(void)
     test_texts();
     test_lists();
     test_priced_lists();
+    test_first_pair();
     test_off_price(1);
     test_off_price(255);
     test_off_price(256);

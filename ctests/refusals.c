@@ -102,9 +102,10 @@ static uint8_t allocate_book(const uint8_t *book, size_t book_len, size_t owners
 
 #define WHOLE (sizeof sheet)
 
-/* Too many owners, one of them 0, and too few prices, one of them 0. */
+/* Too many owners, one of them 0, too few prices, one of them 0, and as many prices as there should be, all 0. */
 static const uint8_t bad_owners[CHORES + 1] = {2, 2, 1, 1, 2, 0};
 static const uint8_t bad_prices[PRICES - 1] = {0};
+static const uint8_t zero_prices[PRICES] = {0};
 
 /* A sheet's number comes before all others. */
 static void test_sheets(void)
@@ -224,6 +225,10 @@ static void test_check_list(void)
     expect_kept("check_list", "unfair", shares_verdict_kind(check_list(sheet, WHOLE, changed, CHORES, CHORES)),
                 SHARES_UNFAIR);
 
+    /* Rows edee and deee: agent 2 envies, and both would gain by a swap. It is called unfair, and nothing is shown. */
+    const uint8_t longer[] = {2, 0, 4, 0, 1, 0, 2, 0x40, 0x80}, both[] = {2, 1, 2, 2};
+    expect_kept("check_list", "unfair and wasteful", check_list(longer, sizeof longer, both, 4, CHORES), 0x1020200);
+
     /* Rows ed and de. */
     const uint8_t crossed[] = {2, 0, 2, 0, 1, 0, 2, 0x40, 0x80};
     const uint8_t worst[] = {2, 1}, best[] = {1, 2};
@@ -248,12 +253,16 @@ static void test_priced_owners(void)
                 check_prices(sheet, WHOLE, bad_owners, sizeof bad_owners, prices, PRICES), SHARES_BAD_OWNER_COUNT);
     expect_kept(call, "4 owners, 19 bytes of prices",
                 check_prices(sheet, WHOLE, owners, CHORES - 1, bad_prices, sizeof bad_prices), SHARES_BAD_OWNER_COUNT);
+    expect_kept(call, "4 owners, price 0", check_prices(sheet, WHOLE, owners, CHORES - 1, zero_prices, PRICES),
+                SHARES_BAD_OWNER_COUNT);
     changed[0] = 0;
     expect_kept(call, "owner 0", check_prices(sheet, WHOLE, changed, CHORES, prices, PRICES), SHARES_BAD_OWNER);
     changed[0] = 3;
     expect_kept(call, "owner 3", check_prices(sheet, WHOLE, changed, CHORES, prices, PRICES), SHARES_BAD_OWNER);
     expect_kept(call, "owner 3, 19 bytes of prices",
                 check_prices(sheet, WHOLE, changed, CHORES, bad_prices, sizeof bad_prices), SHARES_BAD_OWNER);
+    expect_kept(call, "owner 3, price 0", check_prices(sheet, WHOLE, changed, CHORES, zero_prices, PRICES),
+                SHARES_BAD_OWNER);
 }
 
 static void test_prices(void)
@@ -299,6 +308,18 @@ static size_t make_book(void)
     return 9 + 2 * WHOLE;
 }
 
+/* Sheets of no bytes, as many as wanted; hands back the length. */
+static size_t make_empty_sheets(uint8_t count)
+{
+    const size_t length = 1 + 4 * (size_t)count;
+    book[0] = count;
+    for (size_t k = 0; k < count; k++) {
+        two_bytes(1 + 4 * k, length);
+        two_bytes(3 + 4 * k, 0);
+    }
+    return length;
+}
+
 static void no_book(const char *what, size_t length)
 {
     expect_kept("find_sheet", what, find_sheet(book, length, 1), SHARES_BAD_BOOK);
@@ -320,11 +341,15 @@ static void test_no_books(void)
     no_book("a byte too many", length + 1);
     book[0] = 0;
     no_book("no sheets", length);
-    book[0] = SHARES_BOOK_SHEETS + 1;
-    no_book("17 sheets", length);
+    no_book("no sheets and nothing after", make_empty_sheets(0));
+    no_book("17 sheets", make_empty_sheets(SHARES_BOOK_SHEETS + 1));
     make_book();
     two_bytes(1, 10);
     no_book("a gap before the first sheet", length);
+    make_book();
+    two_bytes(5, 10 + WHOLE);
+    two_bytes(7, WHOLE - 1);
+    no_book("a gap between two sheets", length);
     make_book();
     two_bytes(5, 8 + WHOLE);
     two_bytes(7, WHOLE + 1);
@@ -339,15 +364,39 @@ static void test_no_books(void)
     no_book("65,536 bytes", SHARES_MAX_BOOK + 1);
 }
 
+static void expect_found(const char *what, size_t length, size_t number, size_t start, size_t size)
+{
+    expect("find_sheet", what, find_sheet(book, length, number), SHARES_OK);
+    expect("find_sheet, its start", what, (uint32_t)lent.start, (uint32_t)start);
+    expect("find_sheet, its size", what, (uint32_t)lent.size, (uint32_t)size);
+}
+
 static void test_find_sheet(void)
 {
     size_t length = make_book();
-    expect("find_sheet", "sheet 2", find_sheet(book, length, 2), SHARES_OK);
-    expect("find_sheet", "its start", (uint32_t)lent.start, 9 + WHOLE);
-    expect("find_sheet", "its size", (uint32_t)lent.size, WHOLE);
+    expect_found("sheet 1", length, 1, 9, WHOLE);
+    expect_found("sheet 2", length, 2, 9 + WHOLE, WHOLE);
     expect_kept("find_sheet", "sheet 0", find_sheet(book, length, 0), SHARES_BAD_BOOK);
     expect_kept("find_sheet", "sheet 3", find_sheet(book, length, 3), SHARES_BAD_BOOK);
     expect_kept("find_sheet", "sheet 257", find_sheet(book, length, 257), SHARES_BAD_BOOK);
+    expect_kept("find_sheet", "the greatest number", find_sheet(book, length, SIZE_MAX), SHARES_BAD_BOOK);
+    /* The first has no bytes, and the second all of them. */
+    two_bytes(3, 0);
+    two_bytes(5, 9);
+    two_bytes(7, 2 * WHOLE);
+    expect_found("a sheet of no bytes", length, 1, 9, 0);
+    expect_found("the sheet after it", length, 2, 9, 2 * WHOLE);
+}
+
+/* As many sheets and as many bytes as a book may have. */
+static void test_full_books(void)
+{
+    size_t length = make_empty_sheets(SHARES_BOOK_SHEETS);
+    expect_found("sheet 16", length, SHARES_BOOK_SHEETS, length, 0);
+    expect_kept("find_sheet", "sheet 17", find_sheet(book, length, SHARES_BOOK_SHEETS + 1), SHARES_BAD_BOOK);
+    make_empty_sheets(1);
+    two_bytes(3, SHARES_MAX_BOOK - 5);
+    expect_found("65,535 bytes", SHARES_MAX_BOOK, 1, 5, SHARES_MAX_BOOK - 5);
 }
 
 static void test_allocate_book(void)
@@ -399,6 +448,44 @@ static void test_sheets_of_a_book(void)
     }
 }
 
+/* The second sheet's entries follow the first's, and the tally has the moves and the cuts of both. */
+static void test_two_sheets(void)
+{
+    const char *call = "allocate_book, two sheets";
+    const size_t length = make_book();
+    expect(call, "shared out", allocate_book(book, length, SHARES_BOOK_ENTRIES, LONG_PRICES, SHARES_SCRATCH),
+           SHARES_OK);
+    for (size_t k = 0; k < 2; k++) {
+        expect(call, "refusal", lent.refusals[k], SHARES_OK);
+        expect(call, "moves and cuts", lent.moves[k] == 3 && lent.cuts[k] == 1, 1);
+        expect(call, "first", lent.firsts[k], (uint32_t)(CHORES * k));
+        expect(call, "owners", memcmp(lent.owners + CHORES * k, owners, CHORES) == 0, 1);
+        expect(call, "prices", memcmp(lent.prices + PRICES * k, prices, PRICES) == 0, 1);
+    }
+    expect(call, "tally", lent.tally[0] == 6 && lent.tally[1] == 2, 1);
+    expect(call, "entries after the last sheet", keeps_results_from(2), 1);
+}
+
+/* Where every sheet is refused, scratch and tally end as zeros all the same. */
+static void test_all_refused(void)
+{
+    static const uint8_t zeros[SHARES_SCRATCH];
+    const char *call = "allocate_book, all refused";
+    const size_t length = make_empty_sheets(SHARES_BOOK_SHEETS);
+    uint32_t refused = 0;
+    expect(call, "the book", allocate_book(book, length, SHARES_BOOK_ENTRIES, LONG_PRICES, SHARES_SCRATCH), SHARES_OK);
+    for (size_t k = 0; k < SHARES_BOOK_SHEETS; k++)
+        refused += lent.refusals[k] == SHARES_BAD_LENGTH;
+    expect(call, "refusals", refused, SHARES_BOOK_SHEETS);
+    expect(call, "tally", lent.tally[0] == 0 && lent.tally[1] == 0, 1);
+    expect(call, "scratch", memcmp(lent.scratch, zeros, sizeof zeros) == 0, 1);
+    /* With what it writes put back, all is as it was. */
+    memcpy(lent.refusals, before.refusals, sizeof lent.refusals);
+    memcpy(lent.tally, before.tally, sizeof lent.tally);
+    memcpy(lent.scratch, before.scratch, sizeof lent.scratch);
+    expect_kept(call, "all else", 0, 0);
+}
+
 int main(void)
 {
     test_sheets();
@@ -409,7 +496,10 @@ int main(void)
     test_prices();
     test_no_books();
     test_find_sheet();
+    test_full_books();
     test_allocate_book();
     test_sheets_of_a_book();
+    test_two_sheets();
+    test_all_refused();
     return finished("refusals in C");
 }

@@ -51,6 +51,7 @@ static const struct fault faults[] = {
     /* Two faults: the number is the first one's. */
     FAULT("6 bytes, no agents", SHARES_BAD_LENGTH, "\0\0\5\0\1\0"),
     FAULT("6 bytes, 65,535 chores", SHARES_BAD_LENGTH, "\2\xff\xff\0\1\0"),
+    FAULT("6 bytes, easy weight 0", SHARES_BAD_LENGTH, "\2\0\5\0\0\0"),
     FAULT("33 agents, 4,001 chores", SHARES_BAD_AGENTS, "\41\x0f\xa1\0\1\0\3" "\x00\xf0"),
     FAULT("no agents, equal weights", SHARES_BAD_AGENTS, "\0\0\5\0\1\0\1" "\x00\xf0"),
     FAULT("no agents, no rows", SHARES_BAD_AGENTS, "\0\0\5\0\1\0\3"),
