@@ -12,8 +12,9 @@
  * first. Each row starts on a fresh byte, and the bits after its last chore are 0.
  * Numbers of several bytes have their high byte first, here as everywhere below.
  *
- * A book is bytes: the number of sheets, then for each sheet where it starts
- * and how long it is, two bytes each, then the sheets, one after the other.
+ * A book is bytes: the number of sheets, then for each sheet the place in the book
+ * where it starts, counted from 0, and how long it is, two bytes each, then the
+ * sheets, one right after the other to the end of the book.
  *
  * An owner list has one byte per chore, the number of the agent who does it. A
  * price list has four bytes per chore.
@@ -84,7 +85,7 @@ extern "C" {
  * and marks: n (n - 1) m, which is 1,800 at 6 x 60, 198,400 at 32 x 200 and
  * 3,968,000 at 32 x 4,000. It is proved. How long they take is not: on one machine
  * the slowest of some 1,000 sheets of 32 x 200 took 0.55 microseconds a move, and
- * at that rate 198,400 take about a ninth of a second, and the 1,800 of 6 x 60
+ * at that rate 198,400 take about a tenth of a second, and the 1,800 of 6 x 60
  * less than a millisecond. The slowest of 31 sheets of 32 x 4,000 took 2.6
  * microseconds a move, and at that rate 3,968,000 take about ten seconds. */
 #define SHARES_MOST_MOVES(n, m) (SHARES_AS(uint64_t, n) * (SHARES_AS(uint64_t, n) - 1) * SHARES_AS(uint64_t, m))
@@ -171,8 +172,10 @@ uint8_t shares_allocate_recorded(const uint8_t *sheet, size_t sheet_len,
  *
  * Lent: dominating, at least m bytes; its first m are written with
  * SHARES_WASTEFUL, and then they are such another list. It is kept otherwise.
- * Returns a verdict, see below: SHARES_HOLDS, SHARES_UNFAIR with the first pair
- * of agents i, j where i envies j by more than one chore, or SHARES_WASTEFUL.
+ * Returns a verdict, see below: SHARES_UNFAIR with the first pair of agents i, j,
+ * by i and then by j, where i envies j by more than one chore; or, for a list
+ * without such a pair, SHARES_WASTEFUL or SHARES_HOLDS. Costs are as marked, in
+ * rows of difficult marks only too.
  * Refusals: 5 for fewer than 7 bytes, 1, 2, 3, 5, 4, 6, 7, 8.
  */
 uint32_t shares_check_list(const uint8_t *sheet, size_t sheet_len,
@@ -182,9 +185,11 @@ uint32_t shares_check_list(const uint8_t *sheet, size_t sheet_len,
 /* Checks an owner list with prices. An accepted list also holds.
  *
  * prices_len must be 4 * m, and each price 1 to 1,000,000.
- * Returns a verdict, see below: SHARES_ACCEPTED, SHARES_OFF_PRICE with the first
- * chore that is not a best one of its owner, or SHARES_PRICE_ENVY with the first
- * pair of agents i, j where i's prices without the dearest are above j's.
+ * Returns a verdict, see below: SHARES_OFF_PRICE with the first chore that is not
+ * a best one of its owner, that is, of the owner's least cost per price among all
+ * chores; else SHARES_PRICE_ENVY with the first pair of agents i, j, by i and then
+ * by j, where i's prices without the dearest are above j's; else SHARES_ACCEPTED.
+ * Costs are as marked.
  * Refusals: 5 for fewer than 7 bytes, 1, 2, 3, 5, 4, 6, 7, 10.
  */
 uint32_t shares_check_prices(const uint8_t *sheet, size_t sheet_len,
@@ -207,13 +212,13 @@ uint8_t shares_find_sheet(const uint8_t *book, size_t book_len,
  * Lent: owners, at least 64,000 bytes; prices, at least 256,000 bytes; scratch, at
  * least 64 bytes.
  * Returns 0: entry i of each list of results tells of sheet i + 1. refusals has 0
- * or the sheet's number 1 to 5. Beside 0 are the sheet's moves, its cuts and its
- * first entry in the long lists, counted from 0; beside a number these entries
- * keep what they held. So do all entries after those of the book's sheets,
- * book[0] of them. tally has the moves and the cuts of all accepted sheets, and
- * so no more moves than the sum of SHARES_MOST_MOVES(n, m) over these. The long
- * lists are kept outside the stretches of accepted sheets, and the whole scratch
- * is zeros.
+ * or the sheet's own number, as shares_allocate would give it: 5, 1, 2, 3, 5, 4.
+ * Beside 0 are the sheet's moves, its cuts and its first entry in the long lists,
+ * counted from 0; beside a number these entries keep what they held. So do all
+ * entries after those of the book's sheets, book[0] of them. tally has the moves
+ * and the cuts of all accepted sheets, and so no more moves than the sum of
+ * SHARES_MOST_MOVES(n, m) over these. The long lists are kept outside the
+ * stretches of accepted sheets, and the whole scratch is zeros.
  * Returns a refusal number: 9, 8.
  */
 uint8_t shares_allocate_book(const uint8_t *book, size_t book_len,
