@@ -44,6 +44,13 @@ pub fn compared(random: &mut Random, given: &Given) -> ListVerdict {
     verdict
 }
 
+/// The library's verdict on a list that must hold. The generator is left alone.
+pub fn assert_holds(sheet: &[u8], owners: &[u8]) {
+    let mut lent = vec![0; owners.len()];
+    let verdict = PROVED.check_list(sheet, owners, &mut lent);
+    assert_eq!(verdict, ListVerdict::Holds, "{sheet:?} {owners:?}");
+}
+
 /// The second program's verdict, by its check for sheets of any size. Where there
 /// are few enough allocations to try, its other check says the same.
 fn expected(random: &mut Random, given: &Given) -> ListVerdict {

@@ -1,5 +1,6 @@
-//! The price check: the verdict.
+//! The price check: the verdict, and that an accepted list holds.
 
+use crate::comparisons::list_checks::assert_holds;
 use crate::lists::{bytes, damaged_given, near_accepted, Given};
 use crate::random::{self, Random};
 use crate::{Second, PROVED};
@@ -14,6 +15,9 @@ pub fn compared(given: &Given) -> PriceVerdict {
         given.check_prices(&Second),
     ] {
         assert_eq!(verdict, expected, "{given:?}");
+    }
+    if verdict == PriceVerdict::Accepted {
+        assert_holds(&given.sheet, &given.owners);
     }
     verdict
 }

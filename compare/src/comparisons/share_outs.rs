@@ -1,14 +1,16 @@
 //! The share-out of a sheet: owners, prices, moves, cuts and all lent memory. No
-//! share-out takes more moves than it may.
+//! share-out takes more moves than it may, and both checks pass what it returns.
 
 use crate::bound::assert_few;
+use crate::comparisons::list_checks::assert_holds;
 use crate::damage::{harm, Fault};
 use crate::lent::{any, assert_all_hold, enough, short, Lengths, Lent};
 use crate::random::Random;
-use crate::{header, shapes, PROVED};
+use crate::{header, shapes, Checks, PROVED};
+use reference::price_bytes::PRICE_BYTES;
 use reference::share_out::Way;
 use reference::sheet::Sheet;
-use reference::{plain, price_bytes, share_out, ShareOut};
+use reference::{plain, price_bytes, share_out, PriceVerdict, ShareOut};
 
 /// One sheet through both programs, with every byte that was lent compared.
 pub fn compared(random: &mut Random, way: Way, sheet: &[u8], lengths: Lengths) -> ShareOut {
@@ -34,8 +36,18 @@ pub fn compared(random: &mut Random, way: Way, sheet: &[u8], lengths: Lengths) -
     assert_all_hold(&lent, [owners, prices, scratch], sheet);
     if let ShareOut::Shared { moves, cuts } = answer {
         assert_few(sheet, moves, cuts);
+        assert_passes(sheet, lent[0].now(), lent[1].now());
     }
     answer
+}
+
+/// The library's own checks pass the first m owners and prices that it wrote.
+fn assert_passes(sheet: &[u8], owners: &[u8], prices: &[u8]) {
+    let chores = header::chores(sheet);
+    let (owners, prices) = (&owners[..chores], &prices[..PRICE_BYTES * chores]);
+    let verdict = PROVED.check_prices(sheet, owners, prices);
+    assert_eq!(verdict, PriceVerdict::Accepted, "{sheet:?}");
+    assert_holds(sheet, owners);
 }
 
 /// One with enough lent for it.
