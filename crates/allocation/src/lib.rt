@@ -7,9 +7,8 @@ ghost use Rattle.model.specs.Sheet.{choresOf};
 ghost use Rattle.model.specs.Refusals.{allocateRefusal};
 ghost use Rattle.model.specs.Promises.{Allocated};
 ghost use Rattle.allocation.specs.Shared.{few, Sharing, Working, Long, Shared, SharedWith};
-
-use runs::run;
 use opening::open;
+use runs::run;
 use sheet::or_else;
 use steps::Stand;
 use totals::clear;

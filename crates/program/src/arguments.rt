@@ -51,6 +51,7 @@ pub fn to_run(usage: &[u8], version: &[u8], failure: &[u8]) -> bool {
         Asked::Help => output::put(STDOUT_FILENO, usage, failure),
         Asked::Version => output::put(STDOUT_FILENO, version, failure),
         Asked::Unknown => output::put(STDERR_FILENO, usage, failure),
-    };
+    }
+    ;
     false
 }

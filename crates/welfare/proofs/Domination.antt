@@ -3,6 +3,7 @@
 use Prim.Native.Nat.{ℕ, _≤_, _<_}
 use mathlib.Core.Bool.{Bool, true, false, _&&_}
 use mathlib.Core.Path.{_≡_, ap, ap₂}
+use native.Mathlib.Omega.{arith}
 use lib.Dec.{eqb, leb, ltb}
 use borrow.Author.Tests.{leb-true, ltb-true, le-leb, lt-ltb}
 use Rattle.finite.specs.Search.{anyBelow, allBelow}
@@ -38,6 +39,10 @@ dominates-elim I y x e =
       below = r .below;
       less = ltb-true _ _ (r .passes);
     }
+
+-- "some other list": none dominates itself, so that to try it too changes nothing
+pub dominates-self : (I : Instance) (x : ℕ → ℕ) → dominates I x x ≡ false
+dominates-self I x = not-yes _ (λ e. let B = dominates-elim I x x e in absurd (omega (arith, B .less)))
 
 pub dominates-intro : {I : Instance} {y x : ℕ → ℕ} → Better I y x → dominates I y x ≡ true
 unfolding dominates

@@ -28,6 +28,13 @@ last-of-three false true u v w e = let z : _≡_ {A = ℕ} 0 1 = cc in absurd (o
 last-of-three false false u v w e = (refl, refl)
 
 module _ (I : Instance) (x p : ℕ → ℕ) where
+  -- nobody envies itself by price, so that pairs of an agent with itself change nothing
+  pub price-self : (i : ℕ) → enviesByPrice I x p i i ≡ false
+  unfolding enviesByPrice priceUpToOne
+  price-self i =
+      let less : priceUpToOne (I .m) x p i ≤ priceSum (I .m) x p i = omega arith in
+      and-no-right (holdsAny (I .m) x i) (le-ltb _ _ less)
+
   pub envy-elim : (i j : ℕ) → enviesByPrice I x p i j ≡ false → holdsAny (I .m) x i ≡ true → priceUpToOne (I .m) x p i ≤ priceSum (I .m) x p j
   unfolding enviesByPrice
   envy-elim i j e h = ltb-false _ _ (and-rest _ e h)
