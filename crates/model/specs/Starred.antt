@@ -88,6 +88,8 @@ table =
     ∷ shared-out (sheet 1 3 ("ddedddddd" ∷ "ddddddddd" ∷ "dddddeddd" ∷ "edddddddd" ∷ "edddddddd" ∷ [])) (4 ∷ 1 ∷ 1 ∷ 4 ∷ 5 ∷ 3 ∷ 3 ∷ 2 ∷ 2 ∷ []) (1 ∷ 3 ∷ 1 ∷ 3 ∷ 3 ∷ 1 ∷ 3 ∷ 3 ∷ 3 ∷ []) 7 2
     -- three cuts: group 2 has its turn in 2a before group 1, and an agent of least sum receives
     ∷ shared-out (sheet 3 4 ("ddddddeeeeeeeeee" ∷ "dddeeedddddddddd" ∷ "deeddddddddddddd" ∷ "eddddddddddddddd" ∷ [])) (4 ∷ 3 ∷ 3 ∷ 2 ∷ 2 ∷ 2 ∷ 2 ∷ 3 ∷ 4 ∷ 3 ∷ 4 ∷ 4 ∷ 1 ∷ 1 ∷ 1 ∷ 1 ∷ []) (9 ∷ 9 ∷ 9 ∷ 9 ∷ 9 ∷ 9 ∷ 12 ∷ 12 ∷ 12 ∷ 12 ∷ 12 ∷ 12 ∷ 12 ∷ 12 ∷ 12 ∷ 12 ∷ []) 9 3
+    -- three cuts: of the later groups the last has the agent of least sum
+    ∷ shared-out (sheet 2 3 ("dddddddddeeeeeeeeee" ∷ "edddddddddddddddddd" ∷ "deedddddddddddddddd" ∷ "dddeeeddddddddddddd" ∷ "ddddddeeedddddddddd" ∷ [])) (2 ∷ 3 ∷ 3 ∷ 4 ∷ 4 ∷ 4 ∷ 5 ∷ 5 ∷ 5 ∷ 4 ∷ 5 ∷ 2 ∷ 3 ∷ 2 ∷ 3 ∷ 2 ∷ 1 ∷ 1 ∷ 1 ∷ []) (4 ∷ 4 ∷ 4 ∷ 4 ∷ 4 ∷ 4 ∷ 4 ∷ 4 ∷ 4 ∷ 6 ∷ 6 ∷ 6 ∷ 6 ∷ 6 ∷ 6 ∷ 6 ∷ 6 ∷ 6 ∷ 6 ∷ []) 10 3
     -- two givers of equal price-one in 2a
     ∷ shared-out (sheet 3 4 ("ddddddeeeeeeeee" ∷ "deddddddddddddd" ∷ "ddddeeddddddddd" ∷ "ddeeddddddddddd" ∷ "edddddddddddddd" ∷ [])) (5 ∷ 2 ∷ 4 ∷ 4 ∷ 3 ∷ 3 ∷ 3 ∷ 4 ∷ 2 ∷ 5 ∷ 2 ∷ 5 ∷ 1 ∷ 1 ∷ 1 ∷ []) (9 ∷ 9 ∷ 9 ∷ 9 ∷ 9 ∷ 9 ∷ 12 ∷ 12 ∷ 12 ∷ 12 ∷ 12 ∷ 12 ∷ 12 ∷ 12 ∷ 12 ∷ []) 8 2
     -- givers in two rings, several in one, and several who may receive
