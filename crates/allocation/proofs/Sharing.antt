@@ -13,10 +13,11 @@ use Rattle.runs.specs.Runs.{Running, Kit}
 use Rattle.allocation.specs.Shared.{Sharing, Working, Long}
 
 -- lists of as many entries as a sheet's chores are at most
-pub long-of : (s : List ℕ) {k : ℕ} {entitled likes : List ℕ} → choresOf s ≤ k → entitled ≡ replicate k 0 → length likes ≡ k → Long s entitled likes
-long-of s {k} {entitled} most none size =
+pub long-of : (s : List ℕ) {k : ℕ} {entitled likes : List ℕ} → choresOf s ≤ k → entitled ≡ replicate k 0 → likes ≡ replicate k 0 → Long s entitled likes
+long-of s {k} {entitled} {likes} most none nobody =
     let long : length entitled ≡ k = ap length none ∙ length-replicate k 0 in
-    record { noneEntitled = rw long none; entitledFit = rw long most; likesFit = rw size most }
+    let size : length likes ≡ k = ap length nobody ∙ length-replicate k 0 in
+    record { noneEntitled = rw long none; noLikes = rw size nobody; entitledFit = rw long most; likesFit = rw size most }
 
 module _ {s owners prices groups entitled likes : List ℕ} (S : Sharing s owners prices) (W : Working s groups entitled likes) where
   pub opening-of : {n m : ℕ} → n ≡ agentsOf s → m ≡ choresOf s → OpenInto s n m owners prices likes
@@ -25,7 +26,7 @@ module _ {s owners prices groups entitled likes : List ℕ} (S : Sharing s owner
         on = record { valid = S .valid; agents = a; chores = b };
         ownersSized = S .ownersSized ∙ sym b;
         pricesSized = S .pricesSized ∙ sym b;
-        likesSized = W .likesSized ∙ sym b;
+        noLikes = W .noLikes ∙ ap (λ k. replicate k 0) (sym b);
       }
 
   module _ {owners′ prices′ likes′ : List ℕ} (O : Opened s owners′ prices′ likes′) where

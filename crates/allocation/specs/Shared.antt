@@ -17,19 +17,20 @@ pub record Sharing (s owners prices : List ℕ) : Type 0 where
   pub ownersSized : length owners ≡ choresOf s
   pub pricesSized : length prices ≡ choresOf s
 
--- nobody is in a group, no chore is entitled, and there is room for who finds what ok
+-- nobody is in a group, no chore is entitled, and none is liked yet
 pub record Working (s groups entitled likes : List ℕ) : Type 0 where
   pub noGroups : groups ≡ replicate (agentsOf s) 0
   pub noneEntitled : entitled ≡ replicate (choresOf s) 0
-  pub likesSized : length likes ≡ choresOf s
+  pub noLikes : likes ≡ replicate (choresOf s) 0
 
 -- so many chores are few
 abbrev pub few : ℕ
 few = 200
 
--- lists of at least as many entries, and no chore is entitled
+-- lists of at least as many entries; no chore is entitled, and none is liked
 pub record Long (s entitled likes : List ℕ) : Type 0 where
   pub noneEntitled : entitled ≡ replicate (length entitled) 0
+  pub noLikes : likes ≡ replicate (length likes) 0
   pub entitledFit : choresOf s ≤ length entitled
   pub likesFit : choresOf s ≤ length likes
 

@@ -7,6 +7,7 @@ ghost use Rattle.model.specs.Sheet.{choresOf};
 ghost use Rattle.model.specs.Refusals.{allocateRefusal};
 ghost use Rattle.model.specs.Promises.{Allocated};
 ghost use Rattle.allocation.specs.Shared.{few, Sharing, Working, Long, Shared, SharedWith};
+use opening::no_likes;
 use opening::open;
 use runs::run;
 use sheet::or_else;
@@ -26,12 +27,6 @@ fn none_entitled() -> [u8; model::MAX_CHORES]
     [0; model::MAX_CHORES]
 }
 
-fn no_likes() -> [u32; model::MAX_CHORES]
-    ensures { λ r. ⌜ length r ≡ maxChores ⌝ }
-{
-    [0; model::MAX_CHORES]
-}
-
 // So many chores are few.
 const FEW: usize = 200;
 
@@ -42,7 +37,7 @@ fn few_entitled() -> [u8; FEW]
 }
 
 fn few_likes() -> [u32; FEW]
-    ensures { λ r. ⌜ length r ≡ few ⌝ }
+    ensures { λ r. ⌜ r ≡ replicate few 0 ⌝ }
 {
     [0; FEW]
 }

@@ -4,7 +4,7 @@ use mathlib.Core.Bool.{true}
 use mathlib.Core.List.{List}
 use mathlib.Core.Path.{_≡_}
 use lib.Dec.{ltb}
-use lib.ListN.{length, getD}
+use lib.ListN.{length, getD, replicate}
 use Rattle.finite.specs.Bits.{bit, SetOf}
 use Rattle.finite.specs.Search.{firstBelow, chosen}
 use Rattle.finite.specs.Lists.{tabulate}
@@ -37,12 +37,12 @@ pub record OpensWith (n easy : ℕ) (held : List ℕ) (owner : ℕ) : Type 0 whe
   pub easyFor : (easy ≡ 0 → ⊥) → owner ≡ firstBelow n (λ i. bit easy i)
   pub dear : easy ≡ 0 → owner ≡ chosen n (λ i. true) (λ j i. ltb (getD held j 0) (getD held i 0))
 
--- an entry for each chore in each list that the opening fills
+-- an entry for each chore in each list that the opening fills, and nobody likes any yet
 pub record OpenInto (s : List ℕ) (n m : ℕ) (owners prices likes : List ℕ) : Type 0 where
   pub on : OpenOn s n m
   pub ownersSized : length owners ≡ m
   pub pricesSized : length prices ≡ m
-  pub likesSized : length likes ≡ m
+  pub noLikes : likes ≡ replicate m 0
 
 pub record Opened (s owners prices likes : List ℕ) : Type 0 where
   pub opensOwners : owners ≡ tabulate (choresOf s) (λ c. openingOwner (asRead s) c + 1)

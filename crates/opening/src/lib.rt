@@ -2,9 +2,9 @@
 ghost use Prim.Native.Nat.{_+_, _*_, _≤_, _<_};
 ghost use mathlib.Core.Bool.{true};
 ghost use mathlib.Core.Path.{_≡_};
-ghost use lib.ListN.{length, replicate};
+ghost use lib.ListN.{replicate};
 ghost use Rattle.finite.specs.Bits.{SetOf};
-ghost use Rattle.model.specs.Limits.{maxAgents};
+ghost use Rattle.model.specs.Limits.{maxAgents, maxChores};
 ghost use Rattle.model.specs.Sheet.{allDifficult};
 ghost use Rattle.sheet.specs.Readers.{RowInSheet};
 ghost use Rattle.opening.specs.Opened.{OpenOn, ByteOf, Marked, OpensWith, OpenInto, Opened};
@@ -28,15 +28,11 @@ fn all_difficult_rows(sheet: &[u8], n: usize, m: usize) -> u32
     w
 }
 
-// Nobody, for every chore.
-fn clear(likes: &mut [u32])
-    ensures { λ r. ⌜ now (likes .exit) ≡ replicate (length (now (likes .entry))) 0 ⌝ }
+// Nobody, for every chore. Made in a function of its own, so that its entries are one value where it is used.
+pub fn no_likes() -> [u32; model::MAX_CHORES]
+    ensures { λ r. ⌜ r ≡ replicate maxChores 0 ⌝ }
 {
-    let mut c = 0;
-    while c < likes.len() {
-        likes[c] = 0;
-        c += 1;
-    }
+    [0; model::MAX_CHORES]
 }
 
 // The first `count` marks of byte k of agent i's row: the agent joins those who mark the chore easy. Callers give 8 as it stands, so that the
@@ -71,10 +67,9 @@ fn add_row(sheet: &[u8], m: usize, i: usize, likes: &mut [u32])
 
 // For each chore the agents who mark it easy. Row by row, since a row's bytes lie side by side.
 fn add_rows(sheet: &[u8], n: usize, m: usize, likes: &mut [u32])
-    requires { ⌜ OpenOn (now sheet) n m × (length (now likes) ≡ m) ⌝ }
+    requires { ⌜ OpenOn (now sheet) n m × (now likes ≡ replicate m 0) ⌝ }
     ensures { λ _. ⌜ Marked (now (sheet .entry)) n 0 (now (likes .exit)) ⌝ }
 {
-    clear(likes);
     let mut i = 0;
     while i < n {
         add_row(sheet, m, i, likes);

@@ -4,9 +4,9 @@ use Prim.Native.Nat.{ℕ, _-_, _*_, _≤_}
 use mathlib.Core.List.{List}
 use mathlib.Core.Path.{_≡_, refl, sym, _∙_}
 use native.Mathlib.Omega.{arith}
-use lib.ListN.{length, take}
+use lib.ListN.{length, take, replicate}
 use lib.Seq.{length-take-le}
-use Rattle.finite.proofs.Lists.{first-sized}
+use Rattle.finite.proofs.Lists.{first-of, first-sized}
 use Rattle.model.specs.Limits.{maxChores}
 use Rattle.model.specs.Sheet.{agentsOf, choresOf, asRead}
 use Rattle.model.specs.Algorithm.{opening}
@@ -21,14 +21,14 @@ use Rattle.pages.proofs.Answering.{owners-few, prices-few, accepted-text}
 use Rattle.why.specs.Told.{printer, textMost, textRoom, Wide, PutRun, Openable, Opening, Noted}
 
 -- lists of an entry for each chore, cut from longer ones
-pub opening-into : {s owners : List ℕ} {n m : ℕ} (prices likes : List ℕ) → Openable s owners → n ≡ agentsOf s → m ≡ choresOf s → maxChores ≡ length prices → maxChores ≡ length likes → OpenInto s n m owners (take (m - 0) prices) (take (m - 0) likes)
+pub opening-into : {s owners : List ℕ} {n m : ℕ} (prices likes : List ℕ) → Openable s owners → n ≡ agentsOf s → m ≡ choresOf s → maxChores ≡ length prices → likes ≡ replicate maxChores 0 → OpenInto s n m owners (take (m - 0) prices) (take (m - 0) likes)
 opening-into {m = m} prices likes O a b p l =
     let few : m ≤ maxChores = omega (arith, O .valid .choresFit) in
     record {
       on = record { valid = O .valid; agents = a; chores = b };
       ownersSized = O .sized ∙ sym b;
       pricesSized = first-sized prices (sym p) refl few;
-      likesSized = first-sized likes (sym l) refl few;
+      noLikes = first-of l refl few;
     }
 
 module _ {s owners prices bytes opened : List ℕ} {count cuts : ℕ} (O : Opening s count cuts owners prices bytes opened) where

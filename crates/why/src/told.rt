@@ -1,4 +1,5 @@
 // The text of one sheet, from what its share-out answered and left in the lists lent to it.
+use opening::no_likes;
 use opening::open;
 use text::lines;
 use text::moves;
@@ -20,7 +21,7 @@ fn opening_owners(sheet: &[u8], owners: &mut [u8])
     let n = sheet::agents(sheet);
     let m = sheet::chores(sheet);
     let mut prices = totals::no_prices();
-    let mut likes = totals::no_prices();
+    let mut likes = no_likes();
     open(sheet, n, m, owners, &mut prices[0..m], &mut likes[0..m]);
 }
 

@@ -1,7 +1,6 @@
 -- `allocation::share_in` meets its contract: the first entries of the long lists are the working lists.
-use mathlib.Core.Path.{refl}
 use borrow.Author.Needs.{needs}
-use Rattle.finite.proofs.Lists.{first-of, first-sized}
+use Rattle.finite.proofs.Lists.{first-of}
 use Rattle.allocation.proofs.share_in.Statement.{statement}
 use Rattle.allocation.proofs.share_in.Tie as tie
 
@@ -54,7 +53,7 @@ share-with-requires c κs =
         record {
           noGroups = first-of (groups .no-groups .ensures) (chores .before .agents .ensures .is) (S .valid .agentsFit);
           noneEntitled = first-of (L .noneEntitled) m-is (L .entitledFit);
-          likesSized = first-sized (start .args .likes .now) refl m-is (L .likesFit);
+          noLikes = first-of (L .noLikes) m-is (L .likesFit);
         },
       ),
       start .pre .1,

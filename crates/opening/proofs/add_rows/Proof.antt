@@ -2,9 +2,8 @@
 use Prim.Native.Nat.{_-_, _≤_}
 use mathlib.Core.Path.{_≡_, sym, ap, _∙_}
 use native.Mathlib.Omega.{arith}
-use lib.ListN.{length, replicate}
+use lib.ListN.{length, replicate, length-replicate}
 use borrow.Author.Needs.{needs}
-use Rattle.model.specs.Sheet.{choresOf}
 use Rattle.opening.specs.Opened.{Marked}
 use Rattle.opening.proofs.Marking.{marked-none}
 use Rattle.opening.proofs.add_rows.Statement.{statement}
@@ -16,19 +15,15 @@ Inv-loop sheet n m likes₀ i₀ likes i = (i ≤ n) × Marked sheet i 0 likes
 abbrev μ-loop : tie.MeasureT-loop
 μ-loop sheet n m likes₀ i₀ likes i = n - i
 
-clear-requires : tie.Need-clear-requires Inv-loop μ-loop
-clear-requires c κs = search needs
-
 loop-holds : tie.Need-loop-holds Inv-loop μ-loop
 loop-holds c =
-    let from = c .before .before .before .before .before .before in
-    let clear : length (from .args .likes .now) ≡ choresOf (from .args .sheet .now) = from .pre .1 ∙ from .pre .0 .chores in
-    (omega arith, marked-none (c .before .before .clear .ensures ∙ ap (λ k. replicate k 0) clear))
+    let pre = c .before .before .pre in
+    (omega arith, marked-none (pre .1 ∙ ap (λ k. replicate k 0) (pre .0 .chores)))
 
 add-row-requires : tie.Need-add-row-requires Inv-loop μ-loop
 add-row-requires c κs =
     let at = c .before .before in
-    let on = at .before .before .before .before .before .before .before .pre .0 in
+    let on = at .before .before .before .pre .0 in
     (record { valid = on .valid; chores = on .chores; agent = omega (arith, on .agents) }, at .loop .inv .1)
 
 add-i : tie.Need-add-i Inv-loop μ-loop
@@ -42,13 +37,13 @@ loop-again c = (omega arith, c .before .before .add-row .ensures)
 
 same-length : tie.Need-same-length Inv-loop μ-loop
 same-length c =
-    let from = c .before .before .before .before .before .before .before .before in
-    c .before .loop .inv .1 .likesSized ∙ sym (from .pre .1 ∙ from .pre .0 .chores)
+    let pre = c .before .before .before .before .pre in
+    c .before .loop .inv .1 .likesSized ∙ sym (ap length (pre .1) ∙ length-replicate _ 0 ∙ pre .0 .chores)
 
 returns : tie.Need-returns Inv-loop μ-loop
 returns c =
     let loop = c .before .loop in
-    let all : loop .i ≡ c .before .before .before .before .before .before .before .before .args .n = omega arith in
+    let all : loop .i ≡ c .before .before .before .before .args .n = omega arith in
     rw all at (loop .inv .1)
 
 pub add-rows-spec : {M : Type 1} → statement M
@@ -57,7 +52,6 @@ add-rows-spec =
     (tie.spec
     Inv-loop
     μ-loop
-    clear-requires
     loop-holds
     add-row-requires
     add-i

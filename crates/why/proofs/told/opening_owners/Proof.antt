@@ -16,8 +16,8 @@ chores-requires c κs = search needs
 no-prices-requires : tie.Need-no-prices-requires
 no-prices-requires c κs = search needs
 
-no-prices-requires-2 : tie.Need-no-prices-requires-2
-no-prices-requires-2 c κs = search needs
+no-likes-requires : tie.Need-no-likes-requires
+no-likes-requires c κs = search needs
 
 sub-open : tie.Need-sub-open
 sub-open c = search needs
@@ -43,7 +43,7 @@ open-requires c κs =
     let prices = likes .before in
     let chores = prices .before in
     let agents = chores .before in
-    opening-into _ _ (agents .before .before .before .pre) (agents .agents .ensures .is) (chores .chores .ensures .is) (prices .no-prices .ensures) (likes .no-prices2 .ensures)
+    opening-into _ _ (agents .before .before .before .pre) (agents .agents .ensures .is) (chores .chores .ensures .is) (prices .no-prices .ensures) (likes .no-likes .ensures)
 
 same-length : tie.Need-same-length
 same-length c = search needs
@@ -59,7 +59,7 @@ opening-owners-spec =
     agents-requires
     chores-requires
     no-prices-requires
-    no-prices-requires-2
+    no-likes-requires
     sub-open
     part-prices-start
     part-prices-end
