@@ -26,7 +26,7 @@ use Rattle.model.specs.Book.{ownRefusal, takesSheet, firstEntry, sheetAnswer, l
 use Rattle.model.specs.Promises.{entryAt}
 use Rattle.allocation.specs.Final.{accepts, finalOf}
 use Rattle.allocation.proofs.Final.{accepted, final-demand3, final-few, few-moves, few-cuts}
-use Rattle.tally.specs.Counting.{movesIn, cutsIn, Fitting, Counted}
+use Rattle.tally.specs.Counting.{movesAdded, cutsAdded, Fitting, Counted}
 use Rattle.pricebytes.specs.PriceBytes.{pricesIn}
 use Rattle.book.specs.Said.{placed}
 use Rattle.book.specs.Finals.{finalsOf, ownerBytes, priceBytes}
@@ -98,7 +98,7 @@ module _ (book : List ℕ) where
         unfolding finalsOf ownRefusal
         here = answer-parts (sheetOf book j) (rw same at (D .answer))
 
-        pub fitting : Fitting total (movesIn out) (cutsIn out)
+        pub fitting : Fitting total (movesAdded out) (cutsAdded out)
         unfolding counts
         fitting =
             let moved = counts-few (λ x. x .moves) mostEver few-moves in
@@ -119,7 +119,7 @@ module _ (book : List ℕ) where
           pub still-fits : first + n ≤ bookEntries
           still-fits = rw next-free next-fits
 
-          module _ (new : SheetEntry) {total′ : Tally} (E : sheetReply (new .result) ≡ placed first out) (C : Counted total (movesIn out) (cutsIn out) total′) where
+          module _ (new : SheetEntry) {total′ : Tally} (E : sheetReply (new .result) ≡ placed first out) (C : Counted total (movesAdded out) (cutsAdded out) total′) where
             told-now : sheetReply (new .result) ≡ told book j
             unfolding told
             told-now = E ∙ here .place first ∙ rw (P .firstFree)

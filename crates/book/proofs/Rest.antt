@@ -63,8 +63,8 @@ module _ {s lent numbers scratch o p c : List ℕ} {out : ShareOut} (A : Allocat
             zeros = λ e. N .scratchKept;
           }
 
-  pub told : shareOutReply out ≡ answerOf s
-  told = left .answer
+  pub answer-is : shareOutReply out ≡ answerOf s
+  answer-is = left .answer
 
 -- the share-out over the rest of the owners, and then its prices written over the rest of their bytes
 module _ {s owners prices scratch numbers o p c bytes : List ℕ} {first m : ℕ} {out : ShareOut}

@@ -13,7 +13,7 @@ use Rattle.model.specs.declared.SheetResult.{SheetResult}
 use Rattle.model.specs.declared.SheetEntry.{SheetEntry}
 use Rattle.model.specs.Limits.{maxSheets}
 use Rattle.model.specs.Replies.{refused, shared, sharedAt, absent, shareOutReply, sheetReply, replyAt}
-use Rattle.tally.specs.Counting.{movesIn, cutsIn}
+use Rattle.tally.specs.Counting.{movesAdded, cutsAdded}
 use Rattle.book.specs.Said.{isShared, placed}
 use Rattle.book.specs.Steps.{noEntries}
 
@@ -35,8 +35,8 @@ module _ (sheets : List SheetEntry) (j : ℕ) (new : SheetEntry) where
 pub record Parts (out : ShareOut) (t : Bool) (moves cuts number : ℕ) : Type 0 where
   pub whether : isShared out ≡ t
   pub place : (first : ℕ) → placed first out ≡ cond t (sharedAt moves cuts first) (refused number)
-  pub movesAre : movesIn out ≡ cond t moves 0
-  pub cutsAre : cutsIn out ≡ cond t cuts 0
+  pub movesAre : movesAdded out ≡ cond t moves 0
+  pub cutsAre : cutsAdded out ≡ cond t cuts 0
 
 pub parts : (out : ShareOut) (t : Bool) {moves cuts number : ℕ} → shareOutReply out ≡ cond t (shared moves cuts) (refused number) → Parts out t moves cuts number
 parts (ShareOut.Refused k) true e = let z : _≡_ {A = ℕ} 0 1 = cc in absurd (omega arith)

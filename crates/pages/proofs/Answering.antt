@@ -21,7 +21,7 @@ use Rattle.allocation.proofs.Final.{final-demand3, owners-long, prices-long}
 use Rattle.text.specs.Put.{Put}
 use Rattle.text.specs.Lines.{refusedLine}
 use Rattle.text.proofs.Putting.{put-more}
-use Rattle.tally.specs.Counting.{movesIn, cutsIn}
+use Rattle.tally.specs.Counting.{movesAdded, cutsAdded}
 use Rattle.pages.specs.Printer.{Printer, Unbroken, textOf, addsOf}
 use Rattle.pages.specs.Answered.{Ran, Left, Answered}
 
@@ -103,8 +103,8 @@ module _ (P : Printer) {s owners prices : List ℕ} where
       let L = A .sharedOut m c refl in
       rw (eq-eqb (P .refusal s) 0 (L .accepted)) (some m c (L .ran .countIs) (L .ran .cutsAre))
 
-  pub adds-moves : (answer : ShareOut) → Answered P s owners prices answer → movesIn answer ≡ addsOf P (λ x. x .moves) s
-  adds-moves = adds-told movesIn (λ x. x .moves) (λ k. refl) (λ m c e f. e)
+  pub adds-moves : (answer : ShareOut) → Answered P s owners prices answer → movesAdded answer ≡ addsOf P (λ x. x .moves) s
+  adds-moves = adds-told movesAdded (λ x. x .moves) (λ k. refl) (λ m c e f. e)
 
-  pub adds-cuts : (answer : ShareOut) → Answered P s owners prices answer → cutsIn answer ≡ addsOf P (λ x. x .cuts) s
-  adds-cuts = adds-told cutsIn (λ x. x .cuts) (λ k. refl) (λ m c e f. f)
+  pub adds-cuts : (answer : ShareOut) → Answered P s owners prices answer → cutsAdded answer ≡ addsOf P (λ x. x .cuts) s
+  adds-cuts = adds-told cutsAdded (λ x. x .cuts) (λ k. refl) (λ m c e f. f)

@@ -23,7 +23,7 @@ use Rattle.contents.specs.Fits.{SheetInBook}
 use Rattle.contents.proofs.Refusal.{fits}
 use Rattle.allocation.specs.Final.{finalOf}
 use Rattle.allocation.proofs.Final.{few-moves, few-cuts}
-use Rattle.tally.specs.Counting.{movesIn, cutsIn, Fitting, Counted}
+use Rattle.tally.specs.Counting.{movesAdded, cutsAdded, Fitting, Counted}
 use Rattle.text.specs.Text.{joined}
 use Rattle.text.specs.Put.{Put}
 use Rattle.text.specs.Lines.{bookRefusedLine, totalLine}
@@ -85,7 +85,7 @@ module _ (P : Printer) (book : List ℕ) where
 
   -- from sheet to sheet
   module _ {out out′ out″ : List ℕ} {total : Tally} {j : ℕ} {r : SheetText} (l : j < toPrint book) (Q : Passed P book out out′ total j) (S : SheetShown P book j out″ r) where
-    pub fitting : Unbroken P → Fitting total (movesIn (r .answer)) (cutsIn (r .answer))
+    pub fitting : Unbroken P → Fitting total (movesAdded (r .answer)) (cutsAdded (r .answer))
     unfolding tallyTo
     fitting unbroken =
         let I = in-book book l in
@@ -97,7 +97,7 @@ module _ (P : Printer) (book : List ℕ) where
           cuts = omega (arith, Q .cuts, S .cuts, cut (sheetOf book j), sum-at-most j maxAgents (λ i m. cut (sheetOf book i)));
         }
 
-    pub onward : {total′ : Tally} → length out″ ≡ length out′ → Counted total (movesIn (r .answer)) (cutsIn (r .answer)) total′ → Passed P book out out″ total′ (j + 1)
+    pub onward : {total′ : Tally} → length out″ ≡ length out′ → Counted total (movesAdded (r .answer)) (cutsAdded (r .answer)) total′ → Passed P book out out″ total′ (j + 1)
     unfolding tallyTo
     onward same C =
         record {

@@ -6,7 +6,7 @@ use lib.ListN.{length, take}
 use Rattle.io.specs.Counts.{Counts}
 use Rattle.model.specs.declared.Tally.{Tally}
 use Rattle.model.specs.Contents.{sheetOf}
-use Rattle.tally.specs.Counting.{movesIn, cutsIn}
+use Rattle.tally.specs.Counting.{movesAdded, cutsAdded}
 use Rattle.pages.specs.declared.SheetText.{SheetText}
 use Rattle.pages.specs.Printer.{Printer, toPrint, addsOf, sheetText, tallyTo}
 
@@ -23,8 +23,8 @@ module _ (P : Printer) (book : List ℕ) where
   -- the text of sheet j, and what it adds to the tally
   pub record SheetShown (j : ℕ) (out : List ℕ) (r : SheetText) : Type 0 where
     pub shows : Shows (sheetText P book j) out (r .end)
-    pub moves : movesIn (r .answer) ≡ addsOf P (λ x. x .moves) (sheetOf book j)
-    pub cuts : cutsIn (r .answer) ≡ addsOf P (λ x. x .cuts) (sheetOf book j)
+    pub moves : movesAdded (r .answer) ≡ addsOf P (λ x. x .moves) (sheetOf book j)
+    pub cuts : cutsAdded (r .answer) ≡ addsOf P (λ x. x .cuts) (sheetOf book j)
 
   -- the first j sheets are printed: the loop over the sheets
   pub record Passed (out out′ : List ℕ) (total : Tally) (j : ℕ) : Type 0 where

@@ -68,8 +68,8 @@ module _ {s : List ℕ} (v : Valid s) {owners prices groups entitled lent bytes 
       subst (λ o. length (movesIn (asRead s) (R .count)) ≡ stateIn o .moves) (R .comes) (leads (read-sound v) (R .count) .count)
 
 -- where it starts
-pub begins : {s owners prices groups entitled lent bytes : List ℕ} {at : Stand} → Begun s groups at → Running s owners prices groups entitled lent bytes 0 0 0 → Running s owners prices groups entitled lent bytes (at .moves) (at .cuts) (at .stage)
-begins B R = rw (B .moves, B .cuts, B .stage) R
+pub starts : {s owners prices groups entitled lent bytes : List ℕ} {at : Stand} → Begun s groups at → Running s owners prices groups entitled lent bytes 0 0 0 → Running s owners prices groups entitled lent bytes (at .moves) (at .cuts) (at .stage)
+starts B R = rw (B .moves, B .cuts, B .stage) R
 
 -- only one kind of turn stops the run
 end-only : (answer : Turn) → isEnd answer ≡ true → answer ≡ Ended

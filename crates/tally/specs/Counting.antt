@@ -4,13 +4,13 @@ use mathlib.Core.Path.{_≡_}
 use Rattle.model.specs.declared.ShareOut.{ShareOut}
 use Rattle.model.specs.declared.Tally.{Tally}
 
-abbrev pub movesIn : ShareOut → ℕ
-movesIn (ShareOut.Refused k) = 0
-movesIn (ShareOut.Shared moves cuts) = moves
+abbrev pub movesAdded : ShareOut → ℕ
+movesAdded (ShareOut.Refused k) = 0
+movesAdded (ShareOut.Shared moves cuts) = moves
 
-abbrev pub cutsIn : ShareOut → ℕ
-cutsIn (ShareOut.Refused k) = 0
-cutsIn (ShareOut.Shared moves cuts) = cuts
+abbrev pub cutsAdded : ShareOut → ℕ
+cutsAdded (ShareOut.Refused k) = 0
+cutsAdded (ShareOut.Shared moves cuts) = cuts
 
 -- a tally has room for so many more moves and cuts
 pub record Fitting (t : Tally) (m c : ℕ) : Type 0 where

@@ -1,6 +1,6 @@
 // The running tally of moves and cuts.
 ghost use mathlib.Core.Path.{_≡_};
-ghost use Rattle.tally.specs.Counting.{movesIn, cutsIn, Fitting, Counted};
+ghost use Rattle.tally.specs.Counting.{movesAdded, cutsAdded, Fitting, Counted};
 
 pub fn none() -> model::Tally
     ensures { λ r. ⌜ (r .moves ≡ 0) × (r .cuts ≡ 0) ⌝ }
@@ -27,8 +27,8 @@ fn carried(mut t: model::Tally, moves: u64, cuts: u8) -> model::Tally
 
 // A refused sheet counts for nothing.
 pub fn tallied(t: model::Tally, out: model::ShareOut) -> model::Tally
-    requires { ⌜ Fitting t (movesIn out) (cutsIn out) ⌝ }
-    ensures { λ r. ⌜ Counted t (movesIn out) (cutsIn out) r ⌝ }
+    requires { ⌜ Fitting t (movesAdded out) (cutsAdded out) ⌝ }
+    ensures { λ r. ⌜ Counted t (movesAdded out) (cutsAdded out) r ⌝ }
 {
     match out {
         model::ShareOut::Refused(_) => t,

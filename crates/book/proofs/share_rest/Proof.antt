@@ -7,7 +7,7 @@ use borrow.Author.Needs.{needs}
 use Rattle.model.specs.Replies.{shareOutReply}
 use Rattle.book.specs.Finals.{answerOf}
 use Rattle.book.proofs.Finals.{answered, taken-few}
-use Rattle.book.proofs.Rest.{told, rest-shared}
+use Rattle.book.proofs.Rest.{answer-is, rest-shared}
 use Rattle.book.proofs.share_rest.Statement.{statement}
 use Rattle.book.proofs.share_rest.Tie as tie
 
@@ -19,7 +19,7 @@ start c = c .before .before .before .before .before .before .before .before .bef
 answer : (c : tie.After-allocate) → shareOutReply (c .allocate .result) ≡ answerOf (start c .args .sheet .now)
 answer c =
     let room = start c .pre in
-    told (c .allocate .ensures) (simp (length-take, length-drop) (omega (arith, room .ownersFit))) (omega (arith, room .numbersFit)) (room .scratchFits)
+    answer-is (c .allocate .ensures) (simp (length-take, length-drop) (omega (arith, room .ownersFit))) (omega (arith, room .numbersFit)) (room .scratchFits)
 
 sub-allocate : tie.Need-sub-allocate
 sub-allocate c = search needs

@@ -8,7 +8,7 @@ use Rattle.model.specs.Sheet.{asRead}
 use Rattle.algorithm.specs.Reached.{stepNumber, Shaped}
 use Rattle.steps.specs.Turns.{stateOf, Tabled}
 use Rattle.runs.specs.Runs.{Running, Kit, Sees}
-use Rattle.runs.proofs.Running.{state-reached, groups-sized, turning, begins, counting, ends-here, sees-on, runs-on, falls}
+use Rattle.runs.proofs.Running.{state-reached, groups-sized, turning, starts, counting, ends-here, sees-on, runs-on, falls}
 use Rattle.runs.proofs.take_turns.Statement.{statement}
 use Rattle.runs.proofs.take_turns.Tie as tie
 
@@ -52,7 +52,7 @@ begin-requires c κs =
 loop-holds : tie.Need-loop-holds Inv-loop μ-loop
 loop-holds c =
     let pre = begun c .pre in
-    (pre .0 .0, begins (c .begin .ensures) (pre .0 .1), pre .1 .0, c .begin .ensures .sees, pre .1 .1)
+    (pre .0 .0, starts (c .begin .ensures) (pre .0 .1), pre .1 .0, c .begin .ensures .sees, pre .1 .1)
 
 step-requires : tie.Need-step-requires Inv-loop μ-loop
 step-requires c κs =

@@ -3,7 +3,7 @@
 use mathlib.Core.Path.{sym, subst}
 use native.Mathlib.Omega.{arith}
 use borrow.Author.Needs.{needs}
-use Rattle.tally.specs.Counting.{movesIn, cutsIn, Fitting, Counted}
+use Rattle.tally.specs.Counting.{movesAdded, cutsAdded, Fitting, Counted}
 use Rattle.tally.proofs.tallied.Statement.{statement}
 use Rattle.tally.proofs.tallied.Tie as tie
 
@@ -16,18 +16,18 @@ enum-known-out c = search needs
 carried-requires : tie.Need-carried-requires
 carried-requires c κs =
     let at = c .before .before .before in
-    let room = subst (λ out. Fitting (at .args .t) (movesIn out) (cutsIn out)) (c .before .out .given .1) (at .pre) in
+    let room = subst (λ out. Fitting (at .args .t) (movesAdded out) (cutsAdded out)) (c .before .out .given .1) (at .pre) in
     record { moves = omega (arith, room .moves); cuts = omega (arith, room .cuts) }
 
 returns : tie.Need-returns
 returns c =
     let t = c .before .before .args .t in
-    subst (λ out. Counted t (movesIn out) (cutsIn out) t) (sym (c .enum-told .given .1)) (search needs)
+    subst (λ out. Counted t (movesAdded out) (cutsAdded out) t) (sym (c .enum-told .given .1)) (search needs)
 
 returns-2 : tie.Need-returns-2
 returns-2 c =
     let t = c .before .before .before .before .args .t in
-    subst (λ out. Counted t (movesIn out) (cutsIn out) (c .carried .result)) (sym (c .before .before .out .given .1)) (c .carried .ensures)
+    subst (λ out. Counted t (movesAdded out) (cutsAdded out) (c .carried .result)) (sym (c .before .before .out .given .1)) (c .carried .ensures)
 
 pub tallied-spec : {M : Type 1} → statement M
 tallied-spec = tie.close (tie.spec enum-told enum-known-out carried-requires returns returns-2)
