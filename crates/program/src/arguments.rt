@@ -4,7 +4,7 @@ use libc::STDERR_FILENO;
 use libc::STDOUT_FILENO;
 ghost use Rattle.program.specs.Arguments.{Asks};
 
-pub enum Asked {
+enum Asked {
     // No word: the program's own work.
     Run,
     Help,
@@ -48,10 +48,15 @@ fn what_is_asked() -> Asked {
 pub fn to_run(usage: &[u8], version: &[u8], failure: &[u8]) -> bool {
     match what_is_asked() {
         Asked::Run => return true,
-        Asked::Help => output::put(STDOUT_FILENO, usage, failure),
-        Asked::Version => output::put(STDOUT_FILENO, version, failure),
-        Asked::Unknown => output::put(STDERR_FILENO, usage, failure),
+        Asked::Help => {
+            output::put(STDOUT_FILENO, usage, failure);
+        }
+        Asked::Version => {
+            output::put(STDOUT_FILENO, version, failure);
+        }
+        Asked::Unknown => {
+            output::put(STDERR_FILENO, usage, failure);
+        }
     }
-    ;
     false
 }
