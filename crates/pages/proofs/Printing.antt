@@ -1,12 +1,12 @@
 -- A book printed sheet by sheet, with the tally: the texts, one after the other, are the text of the book.
 -- Assumes nothing.
-use Prim.Native.Nat.{ℕ, zero, suc, _+_, _≤_, _<_, zero-le}
+use Prim.Native.Nat.{ℕ, zero, suc, _+_, _-_, _≤_, _<_, zero-le}
 use mathlib.Core.List.{List, _++_}
 use mathlib.Core.Path.{_≡_, refl, sym, ap, ap₂, _∙_}
 use native.Mathlib.Nat.{le-of-lt, le-refl}
 use native.Mathlib.Omega.{arith}
 use lib.Dec.{eqb}
-use lib.ListN.{length}
+use lib.ListN.{length, take}
 use borrow.Author.Tests.{eq-eqb, ne-eqb, eqb-true}
 use Rattle.io.proofs.Counting.{counts}
 use Rattle.finite.proofs.Tests.{cond-le}
@@ -29,7 +29,7 @@ use Rattle.text.specs.Put.{Put}
 use Rattle.text.specs.Lines.{bookRefusedLine, totalLine}
 use Rattle.pages.specs.declared.SheetText.{SheetText}
 use Rattle.pages.specs.Printer.{Printer, Unbroken, toPrint, lastText, textOf, addsOf, sheetText, tallyTo, lastOf}
-use Rattle.pages.specs.Printing.{Shows, SheetShown, Passed}
+use Rattle.pages.specs.Printing.{Shows, SheetShown, NextText, FinalText, Passed}
 use Rattle.pages.specs.Answered.{Answered}
 use Rattle.pages.proofs.Answering.{adds-moves, adds-cuts}
 
@@ -107,12 +107,19 @@ module _ (P : Printer) (book : List ℕ) where
           cuts = C .cuts ∙ rw (Q .cuts, S .cuts, sum-next);
         }
 
+    pub next-text : NextText P book j (take (r .end - 0) out″)
+    next-text =
+        let I = in-book book l in
+        let cut : r .end - 0 ≡ r .end = omega arith in
+        record { few = omega (arith, I .below, I .fits .sheetsFit); is = rw cut (S .shows .made) }
+
   -- after all of them
-  pub finish : {out out′ out″ : List ℕ} {total : Tally} {j r : ℕ} → Passed P book out out′ total j → toPrint book ≤ j → Shows (lastText book (total .moves) (total .cuts)) out″ r → Shows (lastOf P book) out″ r
+  pub final-text : {out out′ out″ : List ℕ} {total : Tally} {j r : ℕ} → Passed P book out out′ total j → toPrint book ≤ j → Shows (lastText book (total .moves) (total .cuts)) out″ r → FinalText P book j (take (r - 0) out″)
   unfolding lastOf
-  finish {j = j} Q l L =
+  final-text {j = j} {r = r} Q l L =
       let all : j ≡ toPrint book = omega (arith, Q .within) in
-      rw (Q .moves, Q .cuts, all) at L
+      let cut : r - 0 ≡ r = omega arith in
+      record { all = all; is = rw cut (rw (Q .moves, Q .cuts, all) at (L .made)) }
 
   joined-are : (texts : ℕ → List ℕ) → ((j : ℕ) → j < toPrint book → texts j ≡ sheetText P book j) → (k : ℕ) → k ≤ toPrint book → joined texts k ≡ joined (sheetText P book) k
   unfolding joined

@@ -1,14 +1,15 @@
 -- What is promised of the texts that are printed, each of which is written into one buffer.
-use Prim.Native.Nat.{ℕ, _≤_}
+use Prim.Native.Nat.{ℕ, _≤_, _<_}
 use mathlib.Core.List.{List}
 use mathlib.Core.Path.{_≡_}
 use lib.ListN.{length, take}
 use Rattle.io.specs.Counts.{Counts}
 use Rattle.model.specs.declared.Tally.{Tally}
+use Rattle.model.specs.Limits.{maxSheets}
 use Rattle.model.specs.Contents.{sheetOf}
 use Rattle.tally.specs.Counting.{movesAdded, cutsAdded}
 use Rattle.pages.specs.declared.SheetText.{SheetText}
-use Rattle.pages.specs.Printer.{Printer, toPrint, addsOf, sheetText, tallyTo}
+use Rattle.pages.specs.Printer.{Printer, toPrint, addsOf, sheetText, tallyTo, lastOf}
 
 -- the line that is printed last takes at most so many bytes
 abbrev pub lastMost : ℕ
@@ -25,6 +26,15 @@ module _ (P : Printer) (book : List ℕ) where
     pub shows : Shows (sheetText P book j) out (r .end)
     pub moves : movesAdded (r .answer) ≡ addsOf P (λ x. x .moves) (sheetOf book j)
     pub cuts : cutsAdded (r .answer) ≡ addsOf P (λ x. x .cuts) (sheetOf book j)
+
+  -- the text that is handed out to be printed after those of j sheets, and after those of all
+  pub record NextText (j : ℕ) (text : List ℕ) : Type 0 where
+    pub few : j < maxSheets
+    pub is : text ≡ sheetText P book j
+
+  pub record FinalText (j : ℕ) (text : List ℕ) : Type 0 where
+    pub all : j ≡ toPrint book
+    pub is : text ≡ lastOf P book
 
   -- the first j sheets are printed: the loop over the sheets
   pub record Passed (out out′ : List ℕ) (total : Tally) (j : ℕ) : Type 0 where

@@ -12,10 +12,19 @@ pub struct SheetText {
     pub answer: model::ShareOut,
 }
 
-// What is to be printed last ends at `end` in the buffer; and whether all before it went out.
-pub struct LastText {
-    pub end: usize,
+// What went out: the texts of so many sheets, one after the other, and whether they went out whole.
+pub struct Sent {
+    pub sheets: usize,
     pub whole: bool,
+}
+
+pub fn nothing() -> Sent
+    ensures { λ r. ⌜ r .sheets ≡ 0 ⌝ }
+{
+    Sent {
+        sheets: 0,
+        whole: true,
+    }
 }
 
 // How many sheets there are to print: none of a refused book.

@@ -49,7 +49,7 @@ module _ {s owners prices : List ℕ} {count cuts m : ℕ} (L : Left printer s c
       let cut : m - 0 ≡ choresOf s = omega arith in
       answering.accepted-text printer number (L .accepted) (rw (cut, R .countIs, R .cutsAre, R .ownersAre, R .pricesAre) at T)
 
--- Texts that are as `sheet_text` promises for each sheet, and a last one that is as `print_sheets` promises, make the text of the book.
+-- Texts that are as `put_sheet` asks for each sheet, and a last one that is as `put_last` asks, make the text of the book.
 pub whole-text : (book : List ℕ) (texts : ℕ → List ℕ) (last : List ℕ) → ((j : ℕ) → j < toPrint book → texts j ≡ sheetText printer book j) → last ≡ lastOf printer book → Printed book (joined texts (toPrint book) ++ last)
 unfolding textOf addsOf sheetText tallyTo page.sheetText sheetsText bookText ownRefusal takesSheet overAccepted tallyOf
 whole-text book texts last e q =

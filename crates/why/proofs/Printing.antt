@@ -29,7 +29,7 @@ module _ (book : List ℕ) where
   unfolding movesFor
   runs-of = record { demand3 = λ j l z. final-demand3 (sheetOf book j) z; runs = λ j l z. run-of (sheetOf book j) z }
 
-  -- Texts that are as `sheet_text` promises for each sheet, and a last one that is as `print_sheets` promises, make the text of the book.
+  -- Texts that are as `put_sheet` asks for each sheet, and a last one that is as `put_last` asks, make the text of the book.
   pub whole-text : (texts : ℕ → List ℕ) (last : List ℕ) → ((j : ℕ) → j < toPrint book → texts j ≡ sheetText printer book j) → last ≡ lastOf printer book → Printed book (joined texts (toPrint book) ++ last)
   unfolding textOf addsOf sheetText tallyTo runText adds page.sheetText page.tallyTo lastLine bookText
   whole-text texts last e q =

@@ -4,14 +4,14 @@ mod told;
 
 use libc::STDIN_FILENO;
 use libc::STDOUT_FILENO;
-use pages::LastText;
+use pages::Sent;
 use program::arguments;
 use program::input;
 use program::output;
-ghost use Prim.Native.Nat.{_≤_};
+ghost use Prim.Native.Nat.{_+_, _≤_};
+ghost use mathlib.Core.Path.{_≡_};
 ghost use lib.ListN.{length};
-ghost use Rattle.pages.specs.Printer.{lastOf};
-ghost use Rattle.pages.specs.Printing.{Shows};
+ghost use Rattle.pages.specs.Printing.{NextText, FinalText};
 ghost use Rattle.why.specs.Told.{printer, textRoom};
 
 // `whole` tells whether all before it went out.
@@ -19,32 +19,46 @@ fn put(whole: bool, text: &[u8]) -> bool {
     output::put_next(whole, STDOUT_FILENO, text, b"why: write error")
 }
 
-// The sheets, each as soon as its text is made. What comes after them is left in the buffer.
-fn print_sheets(book: &[u8], out: &mut [u8]) -> LastText
+// Writes the text of the next sheet. A contract cannot say what is written, so this one says what is handed in to be written.
+fn put_sheet(book: &[u8], text: &[u8], sent: Sent) -> Sent
+    requires { ⌜ NextText printer (now book) (sent .sheets) (now text) ⌝ }
+    ensures { λ r. ⌜ r .sheets ≡ sent .sheets + 1 ⌝ }
+{
+    let whole = put(sent.whole, text);
+    Sent {
+        sheets: sent.sheets + 1,
+        whole,
+    }
+}
+
+// And what comes after the sheets.
+fn put_last(book: &[u8], text: &[u8], sent: Sent)
+    requires { ⌜ FinalText printer (now book) (sent .sheets) (now text) ⌝ }
+{
+    put(sent.whole, text);
+}
+
+// The sheets, each as soon as its text is made, and the line after them.
+fn print_sheets(book: &[u8], out: &mut [u8])
     requires { ⌜ textRoom ≤ length (now out) ⌝ }
-    ensures { λ r. ⌜ Shows (lastOf printer (now (book .entry))) (now (out .exit)) (r .end) ⌝ }
 {
     let k = pages::sheets(book);
     let mut total = tally::none();
-    let mut whole = true;
-    let mut j = 0;
-    while j < k {
-        let shown = page::sheet_text(book, j, out);
+    let mut sent = pages::nothing();
+    while sent.sheets < k {
+        let shown = page::sheet_text(book, sent.sheets, out);
         let end = shown.end;
         let answer = shown.answer;
-        whole = put(whole, &out[0..end]);
+        sent = put_sheet(book, &out[0..end], sent);
         total = tally::tallied(total, answer);
-        j += 1;
     }
     let end = pages::last_text(book, total, out);
-    LastText { end, whole }
+    put_last(book, &out[0..end], sent);
 }
 
 fn print_book(book: &[u8]) {
     let mut out = page::no_text();
-    let last = print_sheets(book, &mut out);
-    let end = last.end;
-    put(last.whole, &out[..end]);
+    print_sheets(book, &mut out);
 }
 
 // The buffer has one byte more than the longest book, so that a longer one is seen by its length, and turned down.
