@@ -22,6 +22,27 @@ pub move-next : (ts us : List Move) (t : Move) (k : ℕ) → length ts ≡ k →
 unfolding moveAt
 move-next ts us t k e = getD-at ts t us _ k e
 
+-- behind a move's bytes those of the others lie six places further on, whatever is read of them
+module _ {ℓ} {A : Type ℓ} (f : ℕ → ℕ → ℕ → ℕ → ℕ → ℕ → A) where
+  abbrev sixAt : List ℕ → ℕ → A
+  sixAt bytes k =
+      f (getD bytes (moveSize * k) 0) (getD bytes (moveSize * k + 1) 0) (getD bytes (moveSize * k + 2) 0) (getD bytes (moveSize * k + 3) 0) (getD bytes (moveSize * k + 4) 0) (getD bytes (moveSize * k + 5) 0)
+
+  module _ (t : Move) (rest : List ℕ) where
+    byte-after : (n m : ℕ) → m ≡ moveSize + n → getD (moveBytes t ++ rest) m 0 ≡ getD rest n 0
+    unfolding moveBytes
+    byte-after n m e = ap (λ i. getD (moveBytes t ++ rest) i 0) e ∙ getD-append-add (moveBytes t) rest n 0
+
+    pub six-after : (k : ℕ) → sixAt (moveBytes t ++ rest) (suc k) ≡ sixAt rest k
+    six-after k =
+        let high = byte-after (moveSize * k) (moveSize * suc k) (omega arith) in
+        let low = byte-after (moveSize * k + 1) (moveSize * suc k + 1) (omega arith) in
+        let giver = byte-after (moveSize * k + 2) (moveSize * suc k + 2) (omega arith) in
+        let receiver = byte-after (moveSize * k + 3) (moveSize * suc k + 3) (omega arith) in
+        let round = byte-after (moveSize * k + 4) (moveSize * suc k + 4) (omega arith) in
+        let step = byte-after (moveSize * k + 5) (moveSize * suc k + 5) (omega arith) in
+        cc (high, low, giver, receiver, round, step)
+
 -- what a record's bytes say is its moves
 module _ (t : Move) (rest : List ℕ) where
   abbrev made : ℕ → ℕ → ℕ → Move
@@ -37,20 +58,9 @@ module _ (t : Move) (rest : List ℕ) where
       ∙ ap (λ g. made (t .chore) g (t .receiver + 1 - 1)) giver
       ∙ ap (made (t .chore) (t .giver)) receiver
 
-  byte-after : (n m : ℕ) → m ≡ moveSize + n → getD (moveBytes t ++ rest) m 0 ≡ getD rest n 0
-  unfolding moveBytes
-  byte-after n m e = ap (λ i. getD (moveBytes t ++ rest) i 0) e ∙ getD-append-add (moveBytes t) rest n 0
-
   move-after : (k : ℕ) → moveIn (moveBytes t ++ rest) (suc k) ≡ moveIn rest k
   unfolding moveIn wordAt
-  move-after k =
-      let high = byte-after (moveSize * k) (moveSize * suc k) (omega arith) in
-      let low = byte-after (moveSize * k + 1) (moveSize * suc k + 1) (omega arith) in
-      let giver = byte-after (moveSize * k + 2) (moveSize * suc k + 2) (omega arith) in
-      let receiver = byte-after (moveSize * k + 3) (moveSize * suc k + 3) (omega arith) in
-      let round = byte-after (moveSize * k + 4) (moveSize * suc k + 4) (omega arith) in
-      let step = byte-after (moveSize * k + 5) (moveSize * suc k + 5) (omega arith) in
-      cc (high, low, giver, receiver, round, step)
+  move-after k = six-after (λ h l g r o s. record { chore = 256 * h + l - 1; giver = g - 1; receiver = r - 1; round = o; step = s }) t rest k
 
 pub read-back : (ts : List Move) (rest : List ℕ) (k : ℕ) → k < length ts → moveIn (recordOf ts ++ rest) k ≡ moveAt ts k
 unfolding recordOf moveAt moveBytes

@@ -5,10 +5,10 @@ use mathlib.Core.List.{List, [], _∷_, _++_, append-assoc, append-nil}
 use mathlib.Core.Path.{_≡_, refl, sym, ap, ap₂, _∙_}
 use native.Mathlib.Numerals.{add-one}
 use native.Mathlib.Omega.{arith}
-use lib.ListN.{length, getD}
-use lib.Seq.{getD-append-add}
+use lib.ListN.{length}
 use Rattle.finite.specs.Lists.{wordAt}
 use Rattle.model.specs.Record.{Move, moveSize, moveBytes, recordOf}
+use Rattle.model.proofs.Record.{six-after}
 use Rattle.records.proofs.Bytes.{record-length}
 use Rattle.text.specs.Text.{joined}
 use Rattle.text.specs.Put.{Put}
@@ -23,21 +23,9 @@ module _ (t : Move) (rest : List ℕ) where
       let whole : 256 * ((t .chore + 1) / 256) + (t .chore + 1) % 256 ≡ t .chore + 1 = omega arith in
       ap (λ n. numbersLine n (t .giver + 1) (t .receiver + 1) (t .round) (t .step)) whole
 
-  -- behind it the bytes of the others lie six places further on
-  byte-after : (n m : ℕ) → m ≡ moveSize + n → getD (moveBytes t ++ rest) m 0 ≡ getD rest n 0
-  unfolding moveBytes
-  byte-after n m e = ap (λ i. getD (moveBytes t ++ rest) i 0) e ∙ getD-append-add (moveBytes t) rest n 0
-
   line-after : (k : ℕ) → lineAt (moveBytes t ++ rest) (suc k) ≡ lineAt rest k
   unfolding lineAt wordAt
-  line-after k =
-      let high = byte-after (moveSize * k) (moveSize * suc k) (omega arith) in
-      let low = byte-after (moveSize * k + 1) (moveSize * suc k + 1) (omega arith) in
-      let giver = byte-after (moveSize * k + 2) (moveSize * suc k + 2) (omega arith) in
-      let receiver = byte-after (moveSize * k + 3) (moveSize * suc k + 3) (omega arith) in
-      let round = byte-after (moveSize * k + 4) (moveSize * suc k + 4) (omega arith) in
-      let step = byte-after (moveSize * k + 5) (moveSize * suc k + 5) (omega arith) in
-      cc (high, low, giver, receiver, round, step)
+  line-after k = six-after (λ h l g r o s. numbersLine (256 * h + l) g r o s) t rest k
 
   lines-after : (k : ℕ) → linesTo (moveBytes t ++ rest) (suc k) ≡ moveLine t ++ linesTo rest k
   unfolding joined
