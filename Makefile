@@ -20,6 +20,9 @@ all: $(ARCHIVE)
 $(ARCHIVE): crates.txt $(shell find crates -name '*.rt' -o -name '*.antt')
 	@rt staticlib capi
 
+# rt waits for the slowest of the crates or edits that it starts together, so that with as many as processors one of these is often idle.
+export RT_JOBS ?= 4
+
 test: trace
 	@$(CARGO_TEST) reference/Cargo.toml
 	@$(CARGO_TEST) textform/Cargo.toml
