@@ -17,6 +17,9 @@ fn examples() {
         }
     }
     assert!(include_str!("../../man/why.1").contains(RUN_OF_C));
+    let with_refusal = RESULT_OF_C.replace("total", "sheet 2 refused 4\ntotal");
+    assert!(include_str!("../../man/shares.1").contains(&with_refusal));
+    assert!(include_str!("../../docs/FORMATS.md").contains(&with_refusal));
 }
 
 #[test]
