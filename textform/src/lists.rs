@@ -41,6 +41,15 @@ pub fn prices(lines: &mut Lines, sheet: &Sheet) -> Result<Vec<u32>, Fault> {
     list(lines, "prices", what, sheet.chores.len(), price)
 }
 
+/// Which command reads a result that has the one line where the other should be.
+fn other_command(should: &str, is: &str) -> &'static str {
+    match (should, is) {
+        ("owners", "opening") => "; what `why` prints is read by `textform why`",
+        ("opening", "owners") => "; what `shares` prints is read by `textform names`",
+        _ => "",
+    }
+}
+
 /// A line of one entry per chore.
 fn list<T>(
     lines: &mut Lines,
@@ -53,7 +62,7 @@ fn list<T>(
     let line = lines.next(&form)?;
     let (first, entries) = (line.words[0], &line.words[1..]);
     if first != word {
-        return Err(unlike(&line, &form));
+        return Err(unlike(&line, &(form + other_command(word, first))));
     }
     if entries.len() != chores {
         let reason = format!("this should be {form}, but has {}", entries.len());

@@ -103,7 +103,9 @@ fn a_result_of_another_length() {
 #[test]
 fn a_result_of_why() {
     let fault = names(SHEET_C, RUN_OF_C).unwrap_err();
-    assert_fault(fault, 2, "should be `owners`");
+    let part = "should be `owners` with one number per reel, 5 in all; \
+                what `why` prints is read by `textform why`";
+    assert_fault(fault, 2, part);
 }
 
 #[test]

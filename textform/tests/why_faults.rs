@@ -32,7 +32,9 @@ fn opening() {
     assert_change(all, "opening 1 1 1 3 1", 2, range);
     assert_change(all, "opening 0 1 1 1 1", 2, "`0` for reel 1");
     let fault = why(SHEET_C, RESULT_OF_C).unwrap_err();
-    assert_fault(fault, 2, "should be `opening` with one number per reel");
+    let part = "should be `opening` with one number per reel, 5 in all; \
+                what `shares` prints is read by `textform names`";
+    assert_fault(fault, 2, part);
 }
 
 #[test]
