@@ -8,6 +8,7 @@ use lib.ListN.{length, getD, take, drop}
 use Rattle.finite.specs.Lists.{tabulate}
 use Rattle.model.specs.declared.ShareOut.{ShareOut}
 use Rattle.model.specs.declared.BookResult.{BookResult}
+use Rattle.model.specs.Limits.{maxSlack}
 use Rattle.model.specs.Instance.{ownerOf, priceOf}
 use Rattle.model.specs.Sheet.{agentsOf, choresOf, rowSize, rowStart, asMarked}
 use Rattle.model.specs.Strands.{joinedSheet, strandOf, strandSheet}
@@ -17,15 +18,17 @@ use Rattle.model.specs.Refusals.{_orElse_, _when_, sheetRefusal, ownersRefusal,
 use Rattle.model.specs.Replies.{Reply, holds, wasteful, accepted}
 use Rattle.model.specs.Verdicts.{unlessRefused, priceVerdict, listCheck}
 use Rattle.model.specs.Book.{firstEntry}
-use Rattle.model.specs.Promises.{Dominating, Allocated, RunMoves, Written, joinedOver, MarksShown, entryAt, BookAllocated}
+use Rattle.model.specs.Promises.{HoldsFromOne, Dominating, Allocated, RunMoves, Written, joinedOver, MarksShown, entryAt, BookAllocated}
 use Rattle.pricebytes.specs.PriceBytes.{pricesIn, withPrices}
 use Rattle.cmodel.specs.Numbers.{verdictNumber, refusalAfter, movesAfter, cutsAfter, firstAfter, Told}
 
 -- The list check.
-pub record ListCheckedInC (s owners lent lent′ : List ℕ) (r : ℕ) : Type 0 where
-  pub answer : r ≡ verdictNumber (listCheck s owners (length lent))
-  pub shown : listCheck s owners (length lent) ≡ wasteful → Dominating s owners lent lent′
-  pub kept : (listCheck s owners (length lent) ≡ wasteful → ⊥) → lent′ ≡ lent
+pub record ListCheckedInC (s owners : List ℕ) (slack : ℕ) (lent lent′ : List ℕ) (r : ℕ) : Type 0 where
+  pub answer : r ≡ verdictNumber (listCheck s owners slack (length lent))
+  pub shown : listCheck s owners slack (length lent) ≡ wasteful → Dominating s owners lent lent′
+  pub kept : (listCheck s owners slack (length lent) ≡ wasteful → ⊥) → lent′ ≡ lent
+  -- "A list that holds at one slack holds at every larger slack"
+  pub larger : r ≡ verdictNumber holds → (t : ℕ) → slack ≤ t → t ≤ maxSlack → listCheck s owners t (length lent) ≡ holds
 
 -- The price check, with the prices as bytes: 10 also for a list that is not of 4 m bytes.
 unfoldable pub priceRefusalInC : List ℕ → List ℕ → List ℕ → ℕ
@@ -41,8 +44,8 @@ priceCheckInC s owners bytes =
 
 pub record PricesCheckedInC (s owners prices : List ℕ) (r : ℕ) : Type 0 where
   pub answer : r ≡ verdictNumber (priceCheckInC s owners prices)
-  -- "An accepted list also holds, whoever proposed the prices."
-  pub holding : priceCheckInC s owners prices ≡ accepted → (lent : ℕ) → choresOf s ≤ lent → listCheck s owners lent ≡ holds
+  -- "An accepted list also holds, whoever proposed the prices.": at every slack of 1 and above
+  pub holding : priceCheckInC s owners prices ≡ accepted → HoldsFromOne s owners
 
 -- The share-out. The price list has a fourth as many entries as bytes.
 pub record AllocatedInC (s owners prices scratch owners′ prices′ scratch′ : List ℕ) (moves cuts moves′ cuts′ r : ℕ) : Type 0 where

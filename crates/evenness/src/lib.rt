@@ -1,18 +1,18 @@
-// Evenness: the first agent that is worse off than another although its costliest chore is taken off.
+// Evenness: the first agent that is worse off than another although some of its chores, the costliest first, are taken off.
 
 ghost use mathlib.Core.Path.{_≡_};
 ghost use Prim.Native.Nat.{_+_, _<_};
 ghost use lib.ListN.{replicate};
-ghost use Rattle.finite.specs.Sums.{maxWhere};
 ghost use Rattle.finite.specs.Search.{firstBelow};
 ghost use Rattle.finite.specs.Lists.{Table};
 ghost use Rattle.model.specs.Limits.{maxAgents};
 ghost use Rattle.model.specs.Instance.{cost, ownerOf};
 ghost use Rattle.model.specs.Sheet.{agentsOf, asMarked};
-ghost use Rattle.model.specs.Fairness.{owns, total, costTo};
+ghost use Rattle.model.specs.Fairness.{total, costTo};
 ghost use Rattle.model.specs.Verdicts.{envies, firstOfPair};
 ghost use Rattle.given.specs.Given.{Given};
 ghost use Rattle.evenness.specs.Adding.{Adding};
+ghost use Rattle.evenness.specs.Off.{Off};
 
 // Adds what `count` chores from `first` on cost agent i, each to the sum of its owner. Agent i's marks for them are in one byte, which is read
 // once.
@@ -59,34 +59,36 @@ fn add_costs(sheet: &[u8], owners: &[u8], m: usize, i: usize, sums: &mut [u32; m
     }
 }
 
-// What is taken off for agent i: the greatest cost of a chore that it holds, 0 where it holds none.
-fn costliest(sheet: &[u8], owners: &[u8], m: usize, i: usize) -> u32
+// What up to `slack` chores of agent i cost it, the costliest first: difficult ones, and easy ones where it holds too few of these.
+fn taken_off(sheet: &[u8], owners: &[u8], m: usize, i: usize, slack: u8) -> u32
     requires { ⌜ Given (now sheet) (now owners) (agentsOf (now sheet)) m ⌝ }
     requires { ⌜ i < agentsOf (now sheet) ⌝ }
-    ensures { λ r. ⌜ r ≡ maxWhere m (owns (ownerOf (now (owners .entry))) i) (cost (asMarked (now (sheet .entry))) i) ⌝ }
+    ensures { λ r. ⌜ Off (now (sheet .entry)) (now (owners .entry)) slack i r ⌝ }
 {
-    let a = sheet::easy_weight(sheet);
-    let b = sheet::difficult_weight(sheet);
-    let mut most = 0;
+    let most = slack as u32;
+    let mut difficult = 0;
+    let mut easy = 0;
     let mut c = 0;
-    // No chore costs more than b.
-    while c < m && most < b {
+    while c < m && difficult < most {
         if given::owner(owners, c) == i {
-            let cost = given::cost(sheet, m, a, b, i, c);
-            if most < cost {
-                most = cost;
+            if sheet::marks_easy(sheet, m, i, c) {
+                easy += 1;
+            } else {
+                difficult += 1;
             }
         }
         c += 1;
     }
-    most
+    let left = most - difficult;
+    let spare = if easy < left { easy } else { left };
+    difficult * sheet::difficult_weight(sheet) + spare * sheet::easy_weight(sheet)
 }
 
 // The first agent that agent i envies, n where there is none.
-pub fn first_envied(sheet: &[u8], owners: &[u8], n: usize, m: usize, i: usize) -> usize
+pub fn first_envied(sheet: &[u8], owners: &[u8], n: usize, m: usize, i: usize, slack: u8) -> usize
     requires { ⌜ Given (now sheet) (now owners) n m ⌝ }
     requires { ⌜ i < n ⌝ }
-    ensures { λ r. ⌜ r ≡ firstBelow n (envies (asMarked (now (sheet .entry))) (ownerOf (now (owners .entry))) i) ⌝ }
+    ensures { λ r. ⌜ r ≡ firstBelow n (envies slack (asMarked (now (sheet .entry))) (ownerOf (now (owners .entry))) i) ⌝ }
 {
     let mut sums = totals::zeros();
     add_costs(sheet, owners, m, i, &mut sums);
@@ -95,18 +97,18 @@ pub fn first_envied(sheet: &[u8], owners: &[u8], n: usize, m: usize, i: usize) -
     if totals::first_below(n, &sums, own) == n {
         return n;
     }
-    let rest = own - costliest(sheet, owners, m, i);
+    let rest = own - taken_off(sheet, owners, m, i, slack);
     totals::first_below(n, &sums, rest)
 }
 
 // The first agent that envies another, n where there is none.
-pub fn first_envier(sheet: &[u8], owners: &[u8], n: usize, m: usize) -> usize
+pub fn first_envier(sheet: &[u8], owners: &[u8], n: usize, m: usize, slack: u8) -> usize
     requires { ⌜ Given (now sheet) (now owners) n m ⌝ }
-    ensures { λ r. ⌜ r ≡ firstOfPair n (envies (asMarked (now (sheet .entry))) (ownerOf (now (owners .entry)))) ⌝ }
+    ensures { λ r. ⌜ r ≡ firstOfPair n (envies slack (asMarked (now (sheet .entry))) (ownerOf (now (owners .entry)))) ⌝ }
 {
     let mut i = 0;
     while i < n {
-        if first_envied(sheet, owners, n, m, i) < n {
+        if first_envied(sheet, owners, n, m, i, slack) < n {
             return i;
         }
         i += 1;

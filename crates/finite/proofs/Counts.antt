@@ -1,7 +1,7 @@
 -- Laws of the number of those below a bound that pass a test.
 -- Assumes nothing.
-use Prim.Native.Nat.{ℕ, _+_, _*_, _≤_, _<_}
-use mathlib.Core.Bool.{Bool, true, false, not}
+use Prim.Native.Nat.{ℕ, _+_, _*_, _-_, _≤_, _<_}
+use mathlib.Core.Bool.{Bool, true, false, not, _&&_}
 use mathlib.Core.Path.{_≡_, sym, _∙_}
 use native.Mathlib.Nat.{le-refl, mul-one, mul-comm}
 use native.Mathlib.Omega.{arith}
@@ -9,10 +9,22 @@ use borrow.Author.Tests.{not-false}
 use Rattle.finite.specs.Sums.{sumTo, sumWhere, countTo}
 use Rattle.finite.proofs.Tests.{not-yes}
 use Rattle.finite.proofs.Sums.{sum-const}
-use Rattle.finite.proofs.Where.{where-value, where-wider, where-strict-test, where-le-sum, where-none, where-not, where-change, where-point, where-scale}
+use Rattle.finite.proofs.Where.{where-zero, where-hit, where-miss, where-split, where-cut, where-value, where-wider, where-strict-test, where-le-sum, where-none, where-not, where-change, where-point, where-scale}
 
 pub ones : (n : ℕ) → sumTo n (λ c. 1) ≡ n
 ones n = sum-const n 1 ∙ mul-one n
+
+pub count-zero : (t : ℕ → Bool) → countTo 0 t ≡ 0
+unfolding countTo sumWhere
+count-zero t = where-zero t (λ c. 1)
+
+pub count-hit : (k : ℕ) (t : ℕ → Bool) → t k ≡ true → countTo (k + 1) t ≡ countTo k t + 1
+unfolding countTo sumWhere
+count-hit k t h = where-hit k t (λ c. 1) h
+
+pub count-miss : (k : ℕ) (t : ℕ → Bool) → t k ≡ false → countTo (k + 1) t ≡ countTo k t
+unfolding countTo sumWhere
+count-miss k t h = where-miss k t (λ c. 1) h
 
 pub count-le : (n : ℕ) (t : ℕ → Bool) → countTo n t ≤ n
 unfolding countTo sumWhere
@@ -34,6 +46,19 @@ count-none n t h = where-none n t (λ c. 1) h
 pub count-point : {n : ℕ} (t : ℕ → Bool) (k : ℕ) → k < n → t k ≡ true → 0 < countTo n t
 unfolding countTo sumWhere
 count-point t k l p = where-point t (λ c. 1) k l p
+
+-- a second test splits the count
+pub count-split : (n : ℕ) (t u : ℕ → Bool) → countTo n t ≡ countTo n (λ c. t c && u c) + countTo n (λ c. t c && not (u c))
+unfolding countTo sumWhere
+count-split n t u = where-split n t u (λ c. 1)
+
+-- those below k are among those below n
+pub count-longer : {k n : ℕ} (t : ℕ → Bool) → k ≤ n → countTo k t ≤ countTo n t
+unfolding countTo sumWhere
+count-longer {k} {n} t l =
+    let all : k + (n - k) ≡ n = omega arith in
+    let cut = rw all at (where-cut k (n - k) t (λ c. 1)) in
+    omega (arith, cut)
 
 -- those that pass and those that fail are all
 pub count-not : (n : ℕ) (t : ℕ → Bool) → countTo n t + countTo n (λ c. not (t c)) ≡ n

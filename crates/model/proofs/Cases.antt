@@ -20,7 +20,7 @@ use Rattle.model.specs.Fairness.{dominates, isAllocation}
 use Rattle.model.specs.Algorithm.{Outcome, busy, done, lacking, after}
 use Rattle.model.specs.Record.{movesIn, recordOf}
 use Rattle.model.specs.Refusals.{sheetRefusal}
-use Rattle.model.specs.Cases.{Case, shared-out, lacks, opens, judged, spelled, lent, lent-book, recorded, lent-record, joins, lent-join, marked, asked, listed, shown, priced, Shares, Records, Meets, MeetsAll}
+use Rattle.model.specs.Cases.{Case, shared-out, lacks, opens, judged, spelled, lent, lent-book, recorded, lent-record, joins, lent-join, marked, asked, listed, even-to-one, shown, priced, Shares, Records, Meets, MeetsAll}
 use Rattle.model.proofs.Allocations.{allocation-picks}
 
 -- what an outcome shows of a run that has ended
@@ -61,7 +61,8 @@ Computed enough (joins first second whole) = Meets (joins first second whole)
 Computed enough (lent-join first second bytes k) = Meets (lent-join first second bytes k)
 Computed enough (marked first second person chore row) = Meets (marked first second person chore row)
 Computed enough (asked first second person chore k) = Meets (asked first second person chore k)
-Computed enough (listed s owners answer) = Meets (listed s owners answer)
+Computed enough (listed s owners slack entries answer) = Meets (listed s owners slack entries answer)
+Computed enough (even-to-one s owners answer) = Meets (even-to-one s owners answer)
 Computed enough (shown s owners other) =
     (isAllocation (asMarked s) other ≡ true)
     × (dominates (asMarked s) (ownerOf other) (ownerOf owners) ≡ true)
@@ -118,7 +119,8 @@ met enough (joins first second whole) h = h
 met enough (lent-join first second bytes k) h = h
 met enough (marked first second person chore row) h = h
 met enough (asked first second person chore k) h = h
-met enough (listed s owners answer) h = h
+met enough (listed s owners slack entries answer) h = h
+met enough (even-to-one s owners answer) h = h
 met enough (shown s owners other) h =
     record {
       allocation = h .0;

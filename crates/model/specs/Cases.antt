@@ -3,7 +3,7 @@ use Prim.Native.Nat.{ℕ, _/_, _%_}
 use Prim.Native.Char.{code}
 use Prim.Native.String as S
 use Prim.Native.String.{String}
-use mathlib.Core.Bool.{true}
+use mathlib.Core.Bool.{Bool, true}
 use mathlib.Core.List.{List, [], _∷_, _++_}
 use mathlib.Core.Path.{_≡_}
 use lib.Dec.{eqb}
@@ -11,7 +11,7 @@ use lib.ListN.{length, getD}
 use Rattle.finite.specs.Packed.{packed}
 use Rattle.model.specs.Instance.{ownerOf}
 use Rattle.model.specs.Sheet.{asMarked, asRead}
-use Rattle.model.specs.Fairness.{totalCost, dominates, isAllocation}
+use Rattle.model.specs.Fairness.{totalCost, ef1, dominates, isAllocation}
 use Rattle.model.specs.Algorithm.{State, lacking, step, opening, Ends}
 use Rattle.model.specs.Record.{movesIn, recordOf}
 use Rattle.model.specs.Strands.{joinedSheet, strandMarks}
@@ -75,8 +75,10 @@ pub data Case : Type 0 where
   marked : List ℕ → List ℕ → ℕ → ℕ → List ℕ → Case
   -- the refusal number of showing them
   asked : List ℕ → List ℕ → ℕ → ℕ → ℕ → Case
-  -- the list check's answer on a sheet and a list, with enough lent
-  listed : List ℕ → List ℕ → Reply → Case
+  -- the list check's answer on a sheet and a list, with this slack and so many entries lent
+  listed : List ℕ → List ℕ → ℕ → ℕ → Reply → Case
+  -- on a sheet, whether a list is even up to one chore
+  even-to-one : List ℕ → List ℕ → Bool → Case
   -- on a sheet, a list, and the one list that dominates it
   shown : List ℕ → List ℕ → List ℕ → Case
   -- the price check's answer on a sheet, a list and prices
@@ -119,7 +121,8 @@ Meets (joins first second whole) = (strandsRefusal first second ≡ 0) × (joine
 Meets (lent-join first second bytes k) = joinRefusal first second bytes ≡ k
 Meets (marked first second person chore row) = (showRefusal first second person chore ≡ 0) × (strandMarks first second person chore ≡ row)
 Meets (asked first second person chore k) = showRefusal first second person chore ≡ k
-Meets (listed s owners answer) = listCheck s owners (length owners) ≡ answer
+Meets (listed s owners slack entries answer) = listCheck s owners slack entries ≡ answer
+Meets (even-to-one s owners answer) = ef1 (asMarked s) (ownerOf owners) ≡ answer
 Meets (shown s owners other) = Shows s owners other
 Meets (priced s owners prices answer) = priceCheck s owners prices ≡ answer
 

@@ -4,6 +4,7 @@ pub mod Sheet
 pub mod Strands
 pub mod Contents
 pub mod Fairness
+pub mod Slack
 pub mod Prices
 pub mod Step2a
 pub mod Step2b

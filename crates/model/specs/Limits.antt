@@ -35,6 +35,10 @@ maxBook = 65535
 abbrev pub bookEntries : ℕ
 bookEntries = 64000
 
+-- document 02, request 8: "A slack above 8 is refused"
+abbrev pub maxSlack : ℕ
+maxSlack = 8
+
 -- 0, or above the limit
 abbrev pub outOfRange : ℕ → ℕ → Bool
 outOfRange limit k = eqb k 0 || ltb limit k

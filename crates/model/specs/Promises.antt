@@ -11,11 +11,13 @@ use Rattle.model.specs.declared.Join.{Join}
 use Rattle.model.specs.declared.ListVerdict.{ListVerdict}
 use Rattle.model.specs.declared.PriceVerdict.{PriceVerdict}
 use Rattle.model.specs.declared.BookResult.{BookResult}
+use Rattle.model.specs.Limits.{maxSlack}
 use Rattle.model.specs.Instance.{Instance, ownerOf}
 use Rattle.model.specs.Sheet.{agentsOf, choresOf, asMarked, asRead}
 use Rattle.model.specs.Strands.{joinedSheet, strandMarks, OnJoined}
 use Rattle.model.specs.Contents.{sheetCount, sheetOf}
 use Rattle.model.specs.Fairness.{ef1, dominates, isAllocation}
+use Rattle.model.specs.Slack.{evenUpTo}
 use Rattle.model.specs.Algorithm.{State, lacking, opening, after, Ends}
 use Rattle.model.specs.Record.{Move, movesIn, moveSize, recordOf, moveIn, played, Hands, moveAt}
 use Rattle.model.specs.Refusals.{sheetRefusal, allocateRefusal, recordedRefusal, joinRefusal, showRefusal, lookupRefusal, bookRefusal}
@@ -23,6 +25,13 @@ use Rattle.model.specs.Replies.{Reply, refused, shared, joined, absent, 
 use Rattle.model.specs.Verdicts.{unlessRefused, listCheck, priceCheck}
 use Rattle.model.specs.MostMoves.{roundMoves, mostMoves}
 use Rattle.model.specs.Book.{takesSheet, sheetAnswer, longList, tallyOf, mostInBook}
+
+-- "What the share-out and an accepted price check guarantee is for t of 1 and above."
+pub record HoldsFromOne (s owners : List ℕ) : Type 0 where
+  -- the list is even up to every slack of 1 and above,
+  pub even : (t : ℕ) → 0 < t → evenUpTo t (asMarked s) (ownerOf owners) ≡ true
+  -- and the list check, lent enough, answers `holds` at each that it takes
+  pub passes : (t lent : ℕ) → 0 < t → t ≤ maxSlack → choresOf s ≤ lent → listCheck s owners t lent ≡ holds
 
 -- Demand 3: what holds of the state in which the share-out of a sheet that breaks no rule ends.
 pub record Demand3 (s : List ℕ) (final : State) : Type 0 where
@@ -42,6 +51,8 @@ pub record Demand3 (s : List ℕ) (final : State) : Type 0 where
   pub undominated : (y : List ℕ) → isAllocation (asMarked s) y ≡ true → dominates (asMarked s) (ownerOf y) (ownerOf (final .owners)) ≡ false
   -- "the price check accepts it with the returned prices"
   pub passes : priceCheck s (final .owners) (final .prices) ≡ accepted
+  -- document 02, request 8: and the list check passes it, at every slack of 1 and above
+  pub slacks : HoldsFromOne s (final .owners)
 
 -- Demand 1, no "run without end": how many moves the share-out of a sheet that breaks no rule takes at most.
 pub record FewMoves (s : List ℕ) (final : State) : Type 0 where
@@ -126,17 +137,19 @@ pub record Dominating (s owners lent lent′ : List ℕ) : Type 0 where
   pub dominating : dominates (asMarked s) (ownerOf (take (choresOf s) lent′)) (ownerOf owners) ≡ true
   pub kept : drop (choresOf s) lent′ ≡ drop (choresOf s) lent
 
--- The list check: `check_list(sheet, owners, dominating)`. "The list check writes its result list only with `wasteful`".
-pub record ListChecked (s owners lent lent′ : List ℕ) (r : ListVerdict) : Type 0 where
-  pub answer : listReply r ≡ listCheck s owners (length lent)
-  pub shown : listCheck s owners (length lent) ≡ wasteful → Dominating s owners lent lent′
-  pub kept : (listCheck s owners (length lent) ≡ wasteful → ⊥) → lent′ ≡ lent
+-- The list check: `check_list(sheet, owners, slack, dominating)`. "The list check writes its result list only with `wasteful`".
+pub record ListChecked (s owners : List ℕ) (slack : ℕ) (lent lent′ : List ℕ) (r : ListVerdict) : Type 0 where
+  pub answer : listReply r ≡ listCheck s owners slack (length lent)
+  pub shown : listCheck s owners slack (length lent) ≡ wasteful → Dominating s owners lent lent′
+  pub kept : (listCheck s owners slack (length lent) ≡ wasteful → ⊥) → lent′ ≡ lent
+  -- "A list that holds at one slack holds at every larger slack"
+  pub larger : listReply r ≡ holds → (t : ℕ) → slack ≤ t → t ≤ maxSlack → listCheck s owners t (length lent) ≡ holds
 
 -- The price check: `check_prices(sheet, owners, prices)`.
 pub record PricesChecked (s owners prices : List ℕ) (r : PriceVerdict) : Type 0 where
   pub answer : priceReply r ≡ priceCheck s owners prices
-  -- "An accepted list also holds, whoever proposed the prices."
-  pub holding : priceReply r ≡ accepted → (lent : ℕ) → choresOf s ≤ lent → listCheck s owners lent ≡ holds
+  -- "An accepted list also holds, whoever proposed the prices.": at every slack of 1 and above
+  pub holding : priceReply r ≡ accepted → HoldsFromOne s owners
 
 -- The lent list when two sheets were joined: "The joined sheet is written at the start of a lent list". The rest of it keeps its content, and
 -- with a refusal all of it does.

@@ -6,7 +6,7 @@ use lib.Dec.{eqb, leb, ltb}
 use lib.ListN.{length}
 use Rattle.finite.specs.Search.{anyBelow}
 use Rattle.finite.specs.Packed.{bitAt, bytesFor}
-use Rattle.model.specs.Limits.{maxAgents, maxChores, maxWeight, maxPrice, scratchSize, bookEntries, outOfRange}
+use Rattle.model.specs.Limits.{maxAgents, maxChores, maxWeight, maxPrice, maxSlack, scratchSize, bookEntries, outOfRange}
 use Rattle.model.specs.Sheet.{agentsOf, choresOf, easyWeight, difficultWeight, headerSize, rowOf, sheetLength}
 use Rattle.model.specs.Strands.{agree, joinedChores, joinedSheet}
 use Rattle.model.specs.Contents.{sheetCount, bookFits}
@@ -91,12 +91,17 @@ recordedRefusal s owners prices scratch moves bytes =
     allocateRefusal s owners prices scratch
     orElse recordRefusal moves bytes
 
--- the list check, with the length of the list lent for a dominating one
-unfoldable pub listRefusal : List ℕ → List ℕ → ℕ → ℕ
-listRefusal s owners lent =
+-- 13: "A slack above 8"
+unfoldable pub slackRefusal : ℕ → ℕ
+slackRefusal slack = 13 when ltb maxSlack slack
+
+-- the list check, with its slack and the length of the list lent for a dominating one: 13 comes "after all the others"
+unfoldable pub listRefusal : List ℕ → List ℕ → ℕ → ℕ → ℕ
+listRefusal s owners slack lent =
     sheetRefusal s
     orElse ownersRefusal (agentsOf s) (choresOf s) owners
     orElse lentRefusal (choresOf s) lent
+    orElse slackRefusal slack
 
 -- the price check
 unfoldable pub priceRefusal : List ℕ → List ℕ → List ℕ → ℕ

@@ -1,13 +1,14 @@
 -- The cases of document 01 with a star, and more where no starred one notices a wrong definition. The theorem `starred` (proofs/Starred.antt)
 -- says that the definitions meet each of them.
 use Prim.Native.Nat.{ℕ, zero, suc, _/_, _%_}
+use mathlib.Core.Bool.{true, false}
 use mathlib.Core.List.{List, [], _∷_, _++_}
 use lib.ListN.{replicate}
 use Rattle.finite.specs.Packed.{bytesFor}
 use Rattle.model.specs.Record.{moveBytes}
 use Rattle.model.specs.Strands.{joinedSheet}
 use Rattle.model.specs.Replies.{refused, holds, unfair, wasteful, offPrice, priceEnvy, accepted}
-use Rattle.model.specs.Cases.{header, sheet, row, Case, shared-out, opens, lacks, judged, spelled, lent, lent-book, recorded, lent-record, joins, lent-join, marked, asked, listed, shown, priced}
+use Rattle.model.specs.Cases.{header, sheet, row, Case, shared-out, opens, lacks, judged, spelled, lent, lent-book, recorded, lent-record, joins, lent-join, marked, asked, listed, even-to-one, shown, priced}
 
 unfoldable pub sheetC : List ℕ
 sheetC = sheet 1 3 ("eeeee" ∷ "dddde" ∷ [])
@@ -30,6 +31,10 @@ sheetD = sheet 1 2 ("eee" ∷ "eee" ∷ [])
 
 unfoldable pub sheetE : List ℕ
 sheetE = sheet 1 2 ("ed" ∷ "de" ∷ [])
+
+-- a sheet with a list whose answer differs at slacks of 0, 1 and 2
+unfoldable pub sheetS : List ℕ
+sheetS = sheet 1 3 ("edede" ∷ "ddded" ∷ "dddde" ∷ [])
 
 -- a sheet with a move in 2a
 unfoldable pub sheet2a : List ℕ
@@ -101,21 +106,36 @@ table =
     ∷ shared-out (sheet 1 3 ("eedd" ∷ "eddd" ∷ [])) (1 ∷ 1 ∷ 1 ∷ 2 ∷ []) (3 ∷ 3 ∷ 9 ∷ 9 ∷ []) 1 0
     -- all chores of the giver in 2a are entitled, which no run comes to
     ∷ lacks sheetD (record { owners = 1 ∷ 1 ∷ 1 ∷ []; prices = 2 ∷ 2 ∷ 2 ∷ []; groups = 1 ∷ 2 ∷ []; entitled = 1 ∷ 1 ∷ 1 ∷ []; moves = 0; cuts = 2; stage = 1 })
-    -- the list check
-    ∷ listed sheetD (1 ∷ 1 ∷ 1 ∷ []) (unfair 1 2)
-    ∷ listed sheetD (1 ∷ 1 ∷ 2 ∷ []) holds
-    ∷ listed sheetE (2 ∷ 1 ∷ []) wasteful
+    -- the list check, with the slack of one chore that document 01 has
+    ∷ listed sheetD (1 ∷ 1 ∷ 1 ∷ []) 1 3 (unfair 1 2)
+    ∷ listed sheetD (1 ∷ 1 ∷ 2 ∷ []) 1 3 holds
+    ∷ listed sheetE (2 ∷ 1 ∷ []) 1 2 wasteful
     ∷ shown sheetE (2 ∷ 1 ∷ []) (1 ∷ 2 ∷ [])
-    -- even, for the dearest chore taken off and not for the cheapest
-    ∷ listed (sheet 1 3 ("ede" ∷ "dde" ∷ [])) (1 ∷ 1 ∷ 2 ∷ []) holds
-    -- nobody envies without chores; of several pairs the first by i and then by j
-    ∷ listed (sheet 1 2 ("e" ∷ "e" ∷ "e" ∷ [])) (3 ∷ []) holds
-    ∷ listed (sheet 1 2 ("eeeeee" ∷ "eeeeee" ∷ "eeeeee" ∷ [])) (1 ∷ 1 ∷ 2 ∷ 2 ∷ 2 ∷ 2 ∷ []) (unfair 1 3)
+    -- of several pairs the first by i and then by j
+    ∷ listed (sheet 1 2 ("eeeeee" ∷ "eeeeee" ∷ "eeeeee" ∷ [])) (1 ∷ 1 ∷ 2 ∷ 2 ∷ 2 ∷ 2 ∷ []) 1 6 (unfair 1 3)
+    -- EF1 itself: even, for the dearest chore taken off and not for the cheapest; nobody envies without chores; one chore too many
+    ∷ even-to-one (sheet 1 3 ("ede" ∷ "dde" ∷ [])) (1 ∷ 1 ∷ 2 ∷ []) true
+    ∷ even-to-one (sheet 1 2 ("e" ∷ "e" ∷ "e" ∷ [])) (3 ∷ []) true
+    ∷ even-to-one sheetD (1 ∷ 1 ∷ 1 ∷ []) false
+    -- document 02, request 8: agent 1 with nothing taken off envies agent 2, without its difficult chore agent 3, and without an easy one too
+    -- nobody
+    ∷ listed sheetS (1 ∷ 1 ∷ 1 ∷ 2 ∷ 3 ∷ []) 0 5 (unfair 1 2)
+    ∷ listed sheetS (1 ∷ 1 ∷ 1 ∷ 2 ∷ 3 ∷ []) 1 5 (unfair 1 3)
+    ∷ listed sheetS (1 ∷ 1 ∷ 1 ∷ 2 ∷ 3 ∷ []) 2 5 holds
+    -- "plain envy-freeness": a list that has it, and one that is wasteful at a slack of 1
+    ∷ listed sheetE (1 ∷ 2 ∷ []) 0 2 holds
+    ∷ listed sheetE (2 ∷ 1 ∷ []) 0 2 (unfair 1 2)
+    -- slacks of 8, which leaves one chore of 9, and of 9
+    ∷ listed (sheet 1 3 ("eeeeeeeee" ∷ "eeeeeeeee" ∷ [])) (1 ∷ 1 ∷ 1 ∷ 1 ∷ 1 ∷ 1 ∷ 1 ∷ 1 ∷ 1 ∷ []) 8 9 (unfair 1 2)
+    ∷ listed sheetE (1 ∷ 2 ∷ []) 9 2 (refused 13)
+    -- "after all the others"
+    ∷ listed sheetE (1 ∷ 2 ∷ []) 9 1 (refused 8)
+    ∷ listed sheetE (1 ∷ 3 ∷ []) 9 1 (refused 7)
     -- an owner too few, which comes before a short lent list, and one too many; an owner of 0 and of 3
-    ∷ listed sheetE (1 ∷ []) (refused 6)
-    ∷ listed sheetE (1 ∷ 2 ∷ 1 ∷ []) (refused 6)
-    ∷ listed sheetE (0 ∷ 2 ∷ []) (refused 7)
-    ∷ listed sheetE (1 ∷ 3 ∷ []) (refused 7)
+    ∷ listed sheetE (1 ∷ []) 1 1 (refused 6)
+    ∷ listed sheetE (1 ∷ 2 ∷ 1 ∷ []) 1 3 (refused 6)
+    ∷ listed sheetE (0 ∷ 2 ∷ []) 1 2 (refused 7)
+    ∷ listed sheetE (1 ∷ 3 ∷ []) 1 2 (refused 7)
     -- the price check
     ∷ priced sheetC (2 ∷ 2 ∷ 1 ∷ 1 ∷ 2 ∷ []) (3 ∷ 3 ∷ 3 ∷ 3 ∷ 1 ∷ []) accepted
     ∷ priced sheetC (2 ∷ 2 ∷ 1 ∷ 1 ∷ 2 ∷ []) (3 ∷ 3 ∷ 3 ∷ 3 ∷ 3 ∷ []) (offPrice 1)
@@ -198,8 +218,8 @@ table =
     ∷ shared-out strand1 (2 ∷ 1 ∷ []) (3 ∷ 3 ∷ []) 1 0
     ∷ shared-out (joinedSheet strand1 strand2) (2 ∷ 1 ∷ 1 ∷ 2 ∷ 1 ∷ []) (3 ∷ 9 ∷ 3 ∷ 3 ∷ 3 ∷ []) 0 0
     -- "Evenness isn't claimed for the parts.": the whole list is even, its first part is not
-    ∷ listed (joinedSheet twoEasy twoEasy) (1 ∷ 1 ∷ 2 ∷ 2 ∷ []) holds
-    ∷ listed twoEasy (1 ∷ 1 ∷ []) (unfair 1 2)
+    ∷ listed (joinedSheet twoEasy twoEasy) (1 ∷ 1 ∷ 2 ∷ 2 ∷ []) 1 4 holds
+    ∷ listed twoEasy (1 ∷ 1 ∷ []) 1 2 (unfair 1 2)
     -- the seam in a byte: 7 chores and 3, of which the second and third lie in the next byte; 8 chores and 3; 3 chores and 8
     ∷ joins (sheet 1 3 ("eedddde" ∷ "ddeeeed" ∷ [])) strand2 (sheet 1 3 ("eeddddeede" ∷ "ddeeeeddee" ∷ []))
     ∷ joins eight strand2 (sheet 1 3 ("ededededede" ∷ "ddddeeeedee" ∷ []))

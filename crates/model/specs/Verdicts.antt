@@ -1,4 +1,4 @@
--- Document 01, "The two checks": the answer that a list, or a list with prices, gets. Costs are as marked.
+-- Document 01, "The two checks", and document 02, request 8: the answer that a list, or a list with prices, gets. Costs are as marked.
 use Prim.Native.Nat.{ℕ, _+_}
 use mathlib.Core.Bool.{Bool, cond, not, _&&_}
 use mathlib.Core.List.{List}
@@ -6,7 +6,8 @@ use lib.Dec.{eqb, ltb}
 use Rattle.finite.specs.Search.{anyBelow, firstBelow}
 use Rattle.model.specs.Instance.{Instance, ownerOf, priceOf}
 use Rattle.model.specs.Sheet.{asMarked}
-use Rattle.model.specs.Fairness.{holdsAny, fair, ef1, dominated}
+use Rattle.model.specs.Fairness.{holdsAny, dominated}
+use Rattle.model.specs.Slack.{fairUpTo, evenUpTo}
 use Rattle.model.specs.Prices.{best, priceSum, priceUpToOne}
 use Rattle.model.specs.Refusals.{listRefusal, priceRefusal}
 use Rattle.model.specs.Replies.{Reply, refused, holds, unfair, wasteful, offPrice, priceEnvy, accepted}
@@ -22,16 +23,17 @@ secondOfPair n t = firstBelow n (λ j. t (firstOfPair n t) j)
 unfoldable pub unlessRefused : ℕ → Reply → Reply
 unlessRefused k answer = cond (eqb k 0) answer (refused k)
 
--- agent i is not fair to agent j
-unfoldable pub envies : Instance → (ℕ → ℕ) → ℕ → ℕ → Bool
-envies I x i j = not (fair I x i j)
+-- agent i is not fair to agent j, with a slack of t chores
+unfoldable pub envies : ℕ → Instance → (ℕ → ℕ) → ℕ → ℕ → Bool
+envies t I x i j = not (fairUpTo t I x i j)
 
--- "`holds`; or `unfair i j`, the first pair by i and then by j; or, for an even list, `wasteful`"
-unfoldable pub listVerdict : Instance → (ℕ → ℕ) → Reply
-listVerdict I x =
-    cond (ef1 I x)
+-- "`holds`; or `unfair i j`, the first pair by i and then by j; or, for an even list, `wasteful`". "The list check takes a slack t", and "the
+-- pair named is still the first".
+unfoldable pub listVerdict : ℕ → Instance → (ℕ → ℕ) → Reply
+listVerdict t I x =
+    cond (evenUpTo t I x)
     (cond (dominated I x) wasteful holds)
-    (unfair (firstOfPair (I .n) (envies I x) + 1) (secondOfPair (I .n) (envies I x) + 1))
+    (unfair (firstOfPair (I .n) (envies t I x) + 1) (secondOfPair (I .n) (envies t I x) + 1))
 
 -- "the first reel that isn't a best reel of its owner"
 unfoldable pub firstOffPrice : Instance → (ℕ → ℕ) → (ℕ → ℕ) → ℕ
@@ -49,9 +51,9 @@ priceVerdict I x p =
     (priceEnvy (firstOfPair (I .n) (enviesByPrice I x p) + 1) (secondOfPair (I .n) (enviesByPrice I x p) + 1))
     accepted)
 
--- the list check's answer, with the length of the list lent for a dominating one
-unfoldable pub listCheck : List ℕ → List ℕ → ℕ → Reply
-listCheck s owners lent = unlessRefused (listRefusal s owners lent) (listVerdict (asMarked s) (ownerOf owners))
+-- the list check's answer, with its slack and the length of the list lent for a dominating one
+unfoldable pub listCheck : List ℕ → List ℕ → ℕ → ℕ → Reply
+listCheck s owners slack lent = unlessRefused (listRefusal s owners slack lent) (listVerdict slack (asMarked s) (ownerOf owners))
 
 -- the price check's answer
 unfoldable pub priceCheck : List ℕ → List ℕ → List ℕ → Reply

@@ -88,3 +88,5 @@ pub const MAX_SHEETS: usize = 16;
 pub const MAX_BOOK: usize = 65535;
 
 pub const BOOK_ENTRIES: usize = 64000;
+
+pub const MAX_SLACK: u8 = 8;

@@ -10,10 +10,10 @@ use borrow.Author.Tests.{le-ltb, ltb-false, leb-false, lt-leb, eq-eqb, ne-eqb, e
 use Rattle.finite.specs.Packed.{bitAt}
 use Rattle.finite.proofs.Tests.{or-none, or-none-intro}
 use Rattle.finite.proofs.Search.{any-none, any-none-intro}
-use Rattle.model.specs.Limits.{maxChores, maxWeight}
+use Rattle.model.specs.Limits.{maxChores, maxWeight, maxSlack}
 use Rattle.model.specs.Sheet.{headerSize, agentsOf, choresOf, easyWeight, difficultWeight, rowSize, rowOf, sheetLength}
 use Rattle.model.specs.Record.{moveSize}
-use Rattle.model.specs.Refusals.{_orElse_, weightsFault, setAfter, marksFault, headerRefusal, sheetRefusal, lentRefusal, allocateRefusal, recordRefusal, recordedRefusal}
+use Rattle.model.specs.Refusals.{_orElse_, weightsFault, setAfter, marksFault, headerRefusal, sheetRefusal, lentRefusal, allocateRefusal, recordRefusal, recordedRefusal, slackRefusal}
 use Rattle.model.proofs.Range.{range-facts, in-range}
 use Rattle.sheet.specs.Valid.{Valid}
 use Rattle.sheet.proofs.OrElse.{or-else-zero, when-none, peel}
@@ -96,3 +96,12 @@ recorded-taken s owners prices scratch moves bytes e =
 pub lent-ok : {needed lent : ℕ} → needed ≤ lent → lentRefusal needed lent ≡ 0
 unfolding lentRefusal
 lent-ok {needed} {lent} l = rw (le-ltb lent needed l)
+
+-- refusal 13 of 0 says that the slack is within its limit
+pub slack-fits : {slack : ℕ} → slackRefusal slack ≡ 0 → slack ≤ maxSlack
+unfolding slackRefusal
+slack-fits {slack} e = ltb-false maxSlack slack (when-none _ 12 e)
+
+pub slack-ok : {slack : ℕ} → slack ≤ maxSlack → slackRefusal slack ≡ 0
+unfolding slackRefusal
+slack-ok {slack} l = rw (le-ltb maxSlack slack l)

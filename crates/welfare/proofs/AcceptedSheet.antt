@@ -5,23 +5,24 @@ use mathlib.Core.Bool.{true, false}
 use mathlib.Core.List.{List}
 use mathlib.Core.Path.{_≡_}
 use native.Mathlib.Omega.{arith}
-use lib.Dec.{eqb}
-use borrow.Author.Tests.{eqb-true}
-use Rattle.finite.proofs.Tests.{by-test}
 use Rattle.model.specs.Instance.{ownerOf, priceOf}
 use Rattle.model.specs.Sheet.{agentsOf, choresOf, asMarked}
 use Rattle.model.specs.Fairness.{ef1, isAllocation, dominates, dominated}
+use Rattle.model.specs.Slack.{evenUpTo}
 use Rattle.model.specs.Refusals.{sheetRefusal, ownersRefusal, pricesRefusal, _orElse_, priceRefusal, listRefusal}
-use Rattle.model.specs.Replies.{Reply, refused, holds, accepted}
+use Rattle.model.specs.Replies.{refused, accepted}
 use Rattle.model.specs.Verdicts.{unlessRefused, priceVerdict, listCheck, priceCheck}
+use Rattle.model.specs.Promises.{HoldsFromOne}
 use Rattle.welfare.proofs.Costs.{marked-weighted}
+use Rattle.welfare.proofs.Slack.{even-from-one}
+use Rattle.welfare.proofs.Answered.{not-refused}
 use Rattle.welfare.proofs.Accepted.{Bought, bought-efficient, bought-even}
 use Rattle.welfare.proofs.PriceVerdict.{Priced, accepted-elim, accepted-intro}
 use Rattle.welfare.proofs.ListVerdict.{verdict-holds}
 use Rattle.welfare.proofs.Allocations.{picks-below, allocation-below, undominated}
 use Rattle.sheet.proofs.OrElse.{or-else-zero, or-else-none}
 use Rattle.sheet.proofs.Judged.{owners-picks, prices-picks}
-use Rattle.sheet.proofs.Refusal.{valid, lent-ok}
+use Rattle.sheet.proofs.Refusal.{valid, lent-ok, slack-ok}
 
 -- what an accepted list was given
 pub record AcceptedList (s owners prices : List ℕ) : Type 0 where
@@ -30,18 +31,13 @@ pub record AcceptedList (s owners prices : List ℕ) : Type 0 where
   pub prices-fit : pricesRefusal (choresOf s) prices ≡ 0
   pub priced : Priced (asMarked s) (ownerOf owners) (priceOf prices)
 
--- no number is returned by an answer that is not a refusal
-not-refused : (k : ℕ) (answer : Reply) → unlessRefused k answer ≡ accepted → (k ≡ 0) × (answer ≡ accepted)
-unfolding unlessRefused
-not-refused k answer e =
-    by-test (eqb k 0)
-    (λ h. (eqb-true k 0 h, rw h at e))
-    (λ h. let r : refused k ≡ accepted = rw h at e in let z : _≡_ {A = ℕ} 0 1 = cc in absurd (omega arith))
+refused-other : (k : ℕ) → refused k ≡ accepted → ⊥
+refused-other k e = let z : _≡_ {A = ℕ} 0 1 = cc in omega arith
 
 pub accepted-list : (s owners prices : List ℕ) → priceCheck s owners prices ≡ accepted → AcceptedList s owners prices
 unfolding priceCheck priceRefusal
 accepted-list s owners prices e =
-    let both = not-refused (priceRefusal s owners prices) (priceVerdict (asMarked s) (ownerOf owners) (priceOf prices)) e in
+    let both = not-refused (priceRefusal s owners prices) (priceVerdict (asMarked s) (ownerOf owners) (priceOf prices)) refused-other e in
     let one = or-else-zero (sheetRefusal s) (ownersRefusal (agentsOf s) (choresOf s) owners orElse pricesRefusal (choresOf s) prices) (both .0) in
     let two = or-else-zero (ownersRefusal (agentsOf s) (choresOf s) owners) (pricesRefusal (choresOf s) prices) (one .1) in
     record {
@@ -83,10 +79,15 @@ accepted-fair s owners prices e =
     let a = accepted-list s owners prices e in
     (accepted-even s owners prices a, λ y h. accepted-undominated s owners prices a (ownerOf y) (allocation-below (asMarked s) y h))
 
--- so the list check answers `holds`
-pub accepted-holds : (s owners prices : List ℕ) → priceCheck s owners prices ≡ accepted → (lent : ℕ) → choresOf s ≤ lent → listCheck s owners lent ≡ holds
+-- so the list check answers `holds` at every slack of 1 and above
+pub accepted-holds : (s owners prices : List ℕ) → priceCheck s owners prices ≡ accepted → HoldsFromOne s owners
 unfolding listCheck listRefusal unlessRefused
-accepted-holds s owners prices e lent l =
+accepted-holds s owners prices e =
     let a = accepted-list s owners prices e in
-    rw (or-else-none (a .sheet-ok) (or-else-none (a .owners-fit) (lent-ok {needed = choresOf s} {lent = lent} l)))
-    (verdict-holds (asMarked s) (ownerOf owners) (accepted-even s owners prices a) (accepted-not-wasteful s owners prices a))
+    let even : (t : ℕ) → 0 < t → evenUpTo t (asMarked s) (ownerOf owners) ≡ true = even-from-one (asMarked s) (ownerOf owners) (accepted-even s owners prices a) in
+    record {
+      even = even;
+      passes = λ t lent some few l.
+          rw (or-else-none (a .sheet-ok) (or-else-none (a .owners-fit) (or-else-none (lent-ok {needed = choresOf s} {lent = lent} l) (slack-ok few))))
+          (verdict-holds t (asMarked s) (ownerOf owners) (even t some) (accepted-not-wasteful s owners prices a));
+    }

@@ -8,13 +8,12 @@ use lib.Dec.{leb}
 use borrow.Author.Tests.{leb-true, le-leb, not-true}
 use Rattle.finite.specs.Sums.{maxWhere}
 use Rattle.finite.specs.Search.{anyBelow, allBelow}
-use Rattle.finite.proofs.Tests.{by-test, clash, bool-eq, not-on, not-yes, and-elim, and-intro, or-cases, or-left, or-right}
+use Rattle.finite.proofs.Tests.{by-test, bool-eq, not-on, and-elim, and-intro, or-cases, or-left, or-right}
 use Rattle.finite.proofs.Search.{any-elim, any-intro, any-none, all-elim, all-intro}
 use Rattle.finite.proofs.Where.{where-none, where-off}
 use Rattle.finite.proofs.Extremes.{peak-attained, peak-above}
 use Rattle.model.specs.Instance.{Instance, cost}
 use Rattle.model.specs.Fairness.{owns, holdsAny, total, costTo, costWithout, fair, ef1}
-use Rattle.model.specs.Verdicts.{envies}
 
 module _ (I : Instance) (x : ℕ → ℕ) where
   -- what an agent without chores has costs nothing
@@ -76,8 +75,3 @@ module _ (I : Instance) (x : ℕ → ℕ) where
   unfolding ef1
   ef1-intro all =
       all-intro (I .n) (λ i. allBelow (I .n) (λ j. fair I x i j)) λ i l. all-intro (I .n) (λ j. fair I x i j) (λ j. all i j l)
-
-  -- and a pair that envies shows that the list is not even
-  pub uneven : (i j : ℕ) → i < I .n → j < I .n → envies I x i j ≡ true → ef1 I x ≡ false
-  unfolding envies
-  uneven i j l k h = not-yes _ (λ e. clash (ef1-elim e i j l k) (not-true _ h))

@@ -2,7 +2,11 @@ pub mod Costs
 pub mod Domination
 pub mod Allocations
 pub mod Evenness
+pub mod TakenOff
+pub mod Slack
+pub mod OffCounts
 pub mod Accepted
+pub mod Answered
 pub mod PriceVerdict
 pub mod ListVerdict
 pub mod AcceptedSheet

@@ -1,4 +1,5 @@
 pub mod Waste
 pub mod Walk
 pub mod Reading
+pub mod Slack
 pub mod Strands

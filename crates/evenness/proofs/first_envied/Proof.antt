@@ -33,10 +33,10 @@ returns c =
     let below = c .before in
     let costs = below .before .before in
     let p = start costs .pre in
-    envied-none (p .0) _ (p .1) (costs .add-costs .ensures) (sym (c .if1 .taken) ∙ below .first-below .ensures)
+    envied-none (p .0) _ (p .1) (costs .add-costs .ensures) _ (sym (c .if1 .taken) ∙ below .first-below .ensures)
 
-costliest-requires : tie.Need-costliest-requires
-costliest-requires c κs =
+taken-off-requires : tie.Need-taken-off-requires
+taken-off-requires c κs =
     let p = start (c .before .before .before) .pre in
     (given-agents (p .0), omega (arith, p .0 .agents))
 
@@ -44,7 +44,7 @@ sub-rest : tie.Need-sub-rest
 sub-rest c =
     let costs = c .before .before .before .before in
     let p = start costs .pre in
-    off-part (p .0) _ (p .1) (costs .add-costs .ensures) (c .costliest .ensures)
+    off-part (p .0) _ (p .1) (costs .add-costs .ensures) (c .taken-off .ensures)
 
 first-below-requires-2 : tie.Need-first-below-requires-2
 first-below-requires-2 c κs = search needs
@@ -54,7 +54,7 @@ returns-2 c =
     let off = c .before .before in
     let costs = off .before .before .before .before in
     let p = start costs .pre in
-    c .first-below2 .ensures ∙ envied-first (p .0) _ (p .1) (costs .add-costs .ensures) (off .costliest .ensures)
+    c .first-below2 .ensures ∙ envied-first (p .0) _ (p .1) (costs .add-costs .ensures) (off .taken-off .ensures)
 
 pub first-envied-spec : {M : Type 1} → statement M
 first-envied-spec =
@@ -66,7 +66,7 @@ first-envied-spec =
     array-read-own
     first-below-requires
     returns
-    costliest-requires
+    taken-off-requires
     sub-rest
     first-below-requires-2
     returns-2)

@@ -13,10 +13,10 @@ use Rattle.evenness.proofs.first_envier.Statement.{statement}
 use Rattle.evenness.proofs.first_envier.Tie as tie
 
 abbrev Inv-loop : tie.InvT-loop
-Inv-loop sheet owners n m i₀ i = (i ≤ n) × (firstBelow i (λ k. anyBelow n (λ j. envies (asMarked sheet) (ownerOf owners) k j)) ≡ i)
+Inv-loop sheet owners n m slack i₀ i = (i ≤ n) × (firstBelow i (λ k. anyBelow n (λ j. envies slack (asMarked sheet) (ownerOf owners) k j)) ≡ i)
 
 abbrev μ-loop : tie.MeasureT-loop
-μ-loop sheet owners n m i₀ i = n - i
+μ-loop sheet owners n m slack i₀ i = n - i
 
 loop-holds : tie.Need-loop-holds Inv-loop μ-loop
 loop-holds c = (omega arith, first-zero _)
