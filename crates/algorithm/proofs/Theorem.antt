@@ -12,7 +12,7 @@ use Rattle.model.specs.Refusals.{sheetRefusal}
 use Rattle.model.specs.Promises.{Demand3, FewMoves}
 use Rattle.model.proofs.Unique.{unique}
 use Rattle.model.proofs.Allocations.{picks-allocation}
-use Rattle.welfare.proofs.AcceptedSheet.{accepted-fair}
+use Rattle.welfare.proofs.AcceptedSheet.{accepted-fair, accepted-holds}
 use Rattle.algorithm.specs.Reached.{Reached}
 use Rattle.algorithm.specs.RunMoves.{enoughSteps}
 use Rattle.algorithm.specs.Theorem.{Theorem}
@@ -62,6 +62,7 @@ theorem s valid =
             even = fair .0;
             undominated = fair .1;
             passes = passes;
+            slacks = accepted-holds s (x .owners) (x .prices) passes;
           };
       kinds = three-prices (R .core);
       clean = λ k y e q. clean-cut (reached S O k y e) S q;

@@ -33,10 +33,15 @@ pub extern "C" fn shares_allocate_recorded(
 }
 
 #[no_mangle]
-pub extern "C" fn shares_check_list(sheet: &[u8], owners: &[u8], dominating: &mut [u8]) -> u32
-    ensures { λ r. ⌜ ListCheckedInC (now (sheet .entry)) (now (owners .entry)) (now (dominating .entry)) (now (dominating .exit)) r ⌝ }
+pub extern "C" fn shares_check_list(
+    sheet: &[u8],
+    owners: &[u8],
+    slack: u8,
+    dominating: &mut [u8],
+) -> u32
+    ensures { λ r. ⌜ ListCheckedInC (now (sheet .entry)) (now (owners .entry)) slack (now (dominating .entry)) (now (dominating .exit)) r ⌝ }
 {
-    cchecks::check_list(sheet, owners, dominating)
+    cchecks::check_list(sheet, owners, slack, dominating)
 }
 
 #[no_mangle]

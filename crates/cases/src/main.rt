@@ -71,6 +71,7 @@ fn print_share_out(answer: ShareOut, owners: &[u8], prices: &[u32]) {
 fn print_list_verdict(answer: ListVerdict) {
     match answer {
         ListVerdict::Refused(number) => print_refused(number),
+        ListVerdict::Holds => print(b" holds\n"),
         _ => print_taken(),
     }
 }
@@ -179,6 +180,9 @@ fn try_limits() {
     try_weight(weight + 1);
     try_scratch(model::SCRATCH_SIZE);
     try_scratch(model::SCRATCH_SIZE - 1);
+    try_slack(model::MAX_SLACK);
+    try_slack(model::MAX_SLACK + 1);
+    try_slack_lent(model::MAX_SLACK + 1, CHORES - 1);
 }
 
 // The faults below are made in sheet C.
@@ -206,10 +210,26 @@ fn try_length(size: usize)
     try_share_out(&sheet[0..size], CHORES, model::SCRATCH_SIZE);
 }
 
-fn try_list(owners: &[u8]) {
+fn try_list(owners: &[u8], slack: u8, lent: usize)
+    requires { ⌜ lent ≤ maxChores ⌝ }
+{
     let sheet = sheet_c();
     let mut dominating = [0u8; model::MAX_CHORES];
-    print_list_verdict(listcheck::check_list(&sheet, owners, &mut dominating));
+    print_list_verdict(listcheck::check_list(&sheet, owners, slack, &mut dominating[0..lent]));
+}
+
+fn try_slack(slack: u8) {
+    print_case(b"slack ", slack as u64);
+    try_list(&[2, 2, 1, 1, 2], slack, CHORES);
+}
+
+// Two faults at once.
+fn try_slack_lent(slack: u8, lent: usize)
+    requires { ⌜ lent ≤ maxChores ⌝ }
+{
+    print_case(b"slack ", slack as u64);
+    print_case(b" lent ", lent as u64);
+    try_list(&[2, 2, 1, 1, 2], slack, lent);
 }
 
 fn try_owners(count: usize)
@@ -217,12 +237,12 @@ fn try_owners(count: usize)
 {
     let owners = [2u8, 2, 1, 1, 2];
     print_case(b"owners ", count as u64);
-    try_list(&owners[0..count]);
+    try_list(&owners[0..count], 1, CHORES);
 }
 
 fn try_owner(owner: u8) {
     print_case(b"owner ", owner as u64);
-    try_list(&[2, 2, 1, 1, owner]);
+    try_list(&[2, 2, 1, 1, owner], 1, CHORES);
 }
 
 fn try_price(price: u32) {

@@ -1,6 +1,6 @@
 -- The price check on bytes, told from the price check on numbers.
 -- Assumes nothing.
-use Prim.Native.Nat.{ℕ, _*_, _≤_}
+use Prim.Native.Nat.{ℕ, _*_}
 use mathlib.Core.Bool.{not}
 use mathlib.Core.List.{List}
 use mathlib.Core.Path.{_≡_, sym, ap, _∙_}
@@ -11,8 +11,9 @@ use borrow.Author.Tests.{eqb-true, ne-eqb, not-false}
 use Rattle.finite.proofs.Below.{by-same}
 use Rattle.model.specs.Sheet.{agentsOf, choresOf}
 use Rattle.model.specs.Refusals.{_orElse_, sheetRefusal, ownersRefusal, pricesRefusal, priceRefusal}
-use Rattle.model.specs.Replies.{Reply, refused, holds, accepted}
-use Rattle.model.specs.Verdicts.{unlessRefused, listCheck, priceCheck}
+use Rattle.model.specs.Replies.{Reply, refused, accepted}
+use Rattle.model.specs.Verdicts.{unlessRefused, priceCheck}
+use Rattle.model.specs.Promises.{HoldsFromOne}
 use Rattle.sheet.proofs.OrElse.{or-else-first, or-else-zero, peel}
 use Rattle.welfare.proofs.AcceptedSheet.{accepted-holds}
 use Rattle.pricebytes.specs.PriceBytes.{pricesIn}
@@ -52,7 +53,7 @@ module _ (s owners bytes : List ℕ) where
         rw same (unless-refused _ never-fine ∙ sym odd-refused)
 
   -- an accepted list holds
-  holding : priceCheckInC s owners bytes ≡ accepted → (lent : ℕ) → choresOf s ≤ lent → listCheck s owners lent ≡ holds
+  holding : priceCheckInC s owners bytes ≡ accepted → HoldsFromOne s owners
   holding e =
       by-same (length bytes) (4 * choresOf s)
       (λ sized. accepted-holds s owners (pricesIn bytes) (whole s owners bytes sized ∙ e))

@@ -58,10 +58,10 @@ fn price_number(v: PriceVerdict) -> u32
     }
 }
 
-pub fn check_list(sheet: &[u8], owners: &[u8], dominating: &mut [u8]) -> u32
-    ensures { λ r. ⌜ ListCheckedInC (now (sheet .entry)) (now (owners .entry)) (now (dominating .entry)) (now (dominating .exit)) r ⌝ }
+pub fn check_list(sheet: &[u8], owners: &[u8], slack: u8, dominating: &mut [u8]) -> u32
+    ensures { λ r. ⌜ ListCheckedInC (now (sheet .entry)) (now (owners .entry)) slack (now (dominating .entry)) (now (dominating .exit)) r ⌝ }
 {
-    list_number(listcheck::check_list(sheet, owners, dominating))
+    list_number(listcheck::check_list(sheet, owners, slack, dominating))
 }
 
 // Only its length counts.

@@ -28,7 +28,7 @@ pub record ListCheckedInC (s owners : List ℕ) (slack : ℕ) (lent lent′ : Li
   pub shown : listCheck s owners slack (length lent) ≡ wasteful → Dominating s owners lent lent′
   pub kept : (listCheck s owners slack (length lent) ≡ wasteful → ⊥) → lent′ ≡ lent
   -- "A list that holds at one slack holds at every larger slack"
-  pub larger : r ≡ verdictNumber holds → (t : ℕ) → slack ≤ t → t ≤ maxSlack → listCheck s owners t (length lent) ≡ holds
+  pub larger : listCheck s owners slack (length lent) ≡ holds → (t : ℕ) → slack ≤ t → t ≤ maxSlack → listCheck s owners t (length lent) ≡ holds
 
 -- The price check, with the prices as bytes: 10 also for a list that is not of 4 m bytes.
 unfoldable pub priceRefusalInC : List ℕ → List ℕ → List ℕ → ℕ

@@ -73,11 +73,11 @@ module _ {s owners : List ℕ} {n m : ℕ} (g : Given s owners n m) (i : ℕ) wh
       let E = countTo (choresOf s) (eases s owners i) in
       let more = count-longer (burdens s owners i) (rw (g .chores) at inside) in
       let hard : difficult ≡ min t H =
-              by-less difficult t
-              (λ l. let all = rw (whole l, g .chores) at (k .difficults) in omega (arith, all))
-              (λ l. omega (arith, k .difficults, more)) in
+      by-less difficult t
+      (λ l. let all = rw (whole l, g .chores) at (k .difficults) in omega (arith, all))
+      (λ l. omega (arith, k .difficults, more)) in
       let light : spare ≡ min (t - H) E =
-              by-less difficult t
-              (λ l. let all = rw (whole l, g .chores) at (k .easies) in omega (arith, all, e, hard))
-              (λ l. omega (arith, e, hard, k .difficults, more)) in
+      by-less difficult t
+      (λ l. let all = rw (whole l, g .chores) at (k .easies) in omega (arith, all, e, hard))
+      (λ l. omega (arith, e, hard, k .difficults, more)) in
       record { whole = rw (hard, light) (off-by-counts (asMarked s) i (g .valid .easier) (ownerOf owners) t) }

@@ -13,7 +13,10 @@ fn list_refusal(sheet: &[u8], owners: &[u8], slack: u8, lent: usize) -> u8
         return refusal;
     }
     let m = sheet::chores(sheet);
-    sheet::or_else(sheet::lent_refusal(m, lent), sheet::when(13, slack > model::MAX_SLACK))
+    sheet::or_else(
+        sheet::lent_refusal(m, lent),
+        sheet::when(13, slack > model::MAX_SLACK),
+    )
 }
 
 // Unfair agents come first: waste is looked for in an even list only. The lent list is written with `Wasteful` alone.

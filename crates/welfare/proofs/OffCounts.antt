@@ -51,9 +51,9 @@ module _ (I : Instance) (i : ℕ) where
         let c = costliest I i left in
         let least : cost I i d ≤ cost I i c = greatest-ge (cost I i) top d (r .below) (both .0) in
         let hard : I .easy i c ≡ false =
-                by-test (I .easy i c)
-                (λ e. absurd (omega (arith, dearer, least, cost-easy I i c e, cost-difficult I i d (not-true _ (both .1)))))
-                (λ e. e) in
+        by-test (I .easy i c)
+        (λ e. absurd (omega (arith, dearer, least, cost-easy I i c e, cost-difficult I i d (not-true _ (both .1)))))
+        (λ e. e) in
         sym
         (count-change (λ c. withoutCostliest I i left c && not (I .easy i c)) (λ c. left c && not (I .easy i c)) c (top .below)
         (and-no-left _ (costliest-off I i left some))
@@ -63,9 +63,9 @@ module _ (I : Instance) (i : ℕ) where
     none-difficult : difficultOf left ≡ 0 → difficultOf (withoutCostliest I i left) ≡ 0
     none-difficult e =
         let fewer =
-                count-mono (I .m) (λ c. withoutCostliest I i left c && not (I .easy i c)) (λ c. left c && not (I .easy i c)) λ c _ p.
-                let both = and-elim (withoutCostliest I i left c) (not (I .easy i c)) p in
-                and-intro (without-left I i left c (both .0)) (both .1) in
+        count-mono (I .m) (λ c. withoutCostliest I i left c && not (I .easy i c)) (λ c. left c && not (I .easy i c)) λ c _ p.
+        let both = and-elim (withoutCostliest I i left c) (not (I .easy i c)) p in
+        and-intro (without-left I i left c (both .0)) (both .1) in
         omega (arith, fewer)
 
     difficult-off : difficultOf (withoutCostliest I i left) ≡ difficultOf left - 1

@@ -1,3 +1,4 @@
+use mathlib.Core.Path.{_∙_}
 use borrow.Author.Needs.{needs}
 use Rattle.cmodel.proofs.Verdicts.{told-as}
 use Rattle.cchecks.proofs.check_list.Statement.{statement}
@@ -15,7 +16,12 @@ same-length c = search needs
 returns : tie.Need-returns
 returns c =
     let checked = c .before .before .before .check-list .ensures in
-    record { answer = told-as (checked .answer) (c .list-number .ensures); shown = checked .shown; kept = checked .kept }
+    record {
+      answer = told-as (checked .answer) (c .list-number .ensures);
+      shown = checked .shown;
+      kept = checked .kept;
+      larger = λ h. checked .larger (checked .answer ∙ h);
+    }
 
 pub check-list-spec : {M : Type 1} → statement M
 check-list-spec =
