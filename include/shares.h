@@ -71,6 +71,8 @@ extern "C" {
 /* A price handed to shares_check_prices is 1 to this. */
 #define SHARES_MAX_PRICE 1000000
 #define SHARES_PRICE_BYTES 4
+/* A slack handed to shares_check_list is 0 to this. */
+#define SHARES_MAX_SLACK 8
 /* The least scratch, in bytes. */
 #define SHARES_SCRATCH 64
 /* The bytes of a move in a record. */
@@ -117,6 +119,7 @@ extern "C" {
 #define SHARES_BAD_PRICE 10      /* other than m prices, or one out of range */
 #define SHARES_SHORT_RECORD 11   /* the moves do not fit the record */
 #define SHARES_UNLIKE_SHEETS 12  /* two sheets differ in n, a or b */
+#define SHARES_BAD_SLACK 13      /* a slack above 8 */
 
 /* Shares out a sheet.
  *
@@ -167,22 +170,33 @@ uint8_t shares_allocate_recorded(const uint8_t *sheet, size_t sheet_len,
                                  uint8_t *record, size_t record_len,
                                  uint64_t *moves, uint8_t *cuts);
 
-/* Checks any owner list: is it envy-free up to one chore, and does no other
+/* Checks any owner list: is it envy-free up to `slack` chores, and does no other
  * list cost nobody more and somebody less?
  *
+ * Agent i envies agent j by more than `slack` chores if, with up to `slack` of i's
+ * chores taken off, the costliest for i first, the rest still costs i more than
+ * j's chores would. So somebody with no more than `slack` chores envies nobody.
+ * Slack 0 asks for plain envy-freeness, slack 1 for envy-freeness up to one chore.
+ * A list that holds at one slack holds at every larger one. The list of a
+ * share-out, and any that shares_check_prices accepts, holds at slack 1 and above;
+ * at slack 0 it may be unfair.
+ *
+ * slack must be 0 to 8.
  * Lent: dominating, at least m bytes; its first m are written with
  * SHARES_WASTEFUL, and then they are such another list. It is kept otherwise.
  * Returns a verdict, see below: SHARES_UNFAIR with the first pair of agents i, j,
- * by i and then by j, where i envies j by more than one chore; or, for a list
+ * by i and then by j, where i envies j by more than `slack` chores; or, for a list
  * without such a pair, SHARES_WASTEFUL or SHARES_HOLDS. Costs are as marked, in
  * rows of difficult marks only too.
- * Refusals: 5 for fewer than 7 bytes, 1, 2, 3, 5, 4, 6, 7, 8.
+ * Refusals: 5 for fewer than 7 bytes, 1, 2, 3, 5, 4, 6, 7, 8, 13.
  */
 uint32_t shares_check_list(const uint8_t *sheet, size_t sheet_len,
                            const uint8_t *owners, size_t owners_len,
+                           uint8_t slack,
                            uint8_t *dominating, size_t dominating_len);
 
-/* Checks an owner list with prices. An accepted list also holds.
+/* Checks an owner list with prices. An accepted list also holds, at slack 1 and
+ * above.
  *
  * prices_len must be 4 * m, and each price 1 to 1,000,000.
  * Returns a verdict, see below: SHARES_OFF_PRICE with the first chore that is not
@@ -392,6 +406,8 @@ static inline const char *shares_refusal_text(uint8_t number)
         return "The record that was lent is too short for the moves.";
     case SHARES_UNLIKE_SHEETS:
         return "The two sheets differ in the number of agents or in a weight.";
+    case SHARES_BAD_SLACK:
+        return "The slack is above 8.";
     default:
         return "No refusal has this number.";
     }
