@@ -76,12 +76,12 @@ static void test_allocate_recorded(void)
 
 static void test_checks(void)
 {
-    expect("check_list", "no sheet", shares_check_list(NULL, 0, owners, CHORES, lent, CHORES), SHARES_BAD_LENGTH);
-    expect("check_list", "no owners", shares_check_list(sheet, sizeof sheet, NULL, 0, lent, CHORES),
+    expect("check_list", "no sheet", shares_check_list(NULL, 0, owners, CHORES, 1, lent, CHORES), SHARES_BAD_LENGTH);
+    expect("check_list", "no owners", shares_check_list(sheet, sizeof sheet, NULL, 0, 1, lent, CHORES),
            SHARES_BAD_OWNER_COUNT);
-    expect("check_list", "nothing lent", shares_check_list(sheet, sizeof sheet, owners, CHORES, NULL, 0),
+    expect("check_list", "nothing lent", shares_check_list(sheet, sizeof sheet, owners, CHORES, 1, NULL, 0),
            SHARES_SHORT_LIST);
-    expect("check_list", "no chores", shares_verdict_kind(shares_check_list(bare, sizeof bare, NULL, 0, NULL, 0)),
+    expect("check_list", "no chores", shares_verdict_kind(shares_check_list(bare, sizeof bare, NULL, 0, 1, NULL, 0)),
            SHARES_HOLDS);
     expect("check_prices", "no sheet", shares_check_prices(NULL, 0, owners, CHORES, prices, PRICES), SHARES_BAD_LENGTH);
     expect("check_prices", "no owners", shares_check_prices(sheet, sizeof sheet, NULL, 0, prices, PRICES),
@@ -91,7 +91,7 @@ static void test_checks(void)
     expect("check_prices", "no chores", shares_verdict_kind(shares_check_prices(bare, sizeof bare, NULL, 0, NULL, 0)),
            SHARES_ACCEPTED);
     /* Where there are no chores, any entry is one too many. */
-    expect("check_list", "no chores, an owner", shares_check_list(bare, sizeof bare, owners, 1, NULL, 0),
+    expect("check_list", "no chores, an owner", shares_check_list(bare, sizeof bare, owners, 1, 1, NULL, 0),
            SHARES_BAD_OWNER_COUNT);
     expect("check_prices", "no chores, an owner", shares_check_prices(bare, sizeof bare, owners, 1, NULL, 0),
            SHARES_BAD_OWNER_COUNT);
@@ -99,6 +99,26 @@ static void test_checks(void)
            SHARES_BAD_PRICE);
     expect("check_prices", "no chores, a byte of a price", shares_check_prices(bare, sizeof bare, NULL, 0, prices, 1),
            SHARES_BAD_PRICE);
+}
+
+/* A sheet without chores has one list, which holds at every slack there is. */
+static void test_slacks(void)
+{
+    for (uint8_t slack = 0; slack <= SHARES_MAX_SLACK; slack++)
+        expect("check_list", "no chores, any slack", shares_check_list(bare, sizeof bare, NULL, 0, slack, NULL, 0),
+               SHARES_HOLDS << 8);
+    expect("check_list", "no chores, slack 9", shares_check_list(bare, sizeof bare, NULL, 0, 9, NULL, 0),
+           SHARES_BAD_SLACK);
+    expect("check_list", "no chores, slack 255", shares_check_list(bare, sizeof bare, NULL, 0, 255, NULL, 0),
+           SHARES_BAD_SLACK);
+    /* What is missing is told first. */
+    expect("check_list", "nothing at all, slack 9", shares_check_list(NULL, 0, NULL, 0, 9, NULL, 0), SHARES_BAD_LENGTH);
+    expect("check_list", "no owners, slack 9", shares_check_list(sheet, sizeof sheet, NULL, 0, 9, lent, CHORES),
+           SHARES_BAD_OWNER_COUNT);
+    expect("check_list", "nothing lent, slack 9", shares_check_list(sheet, sizeof sheet, owners, CHORES, 9, NULL, 0),
+           SHARES_SHORT_LIST);
+    expect("check_list", "no chores, an owner, slack 9", shares_check_list(bare, sizeof bare, owners, 1, 9, NULL, 0),
+           SHARES_BAD_OWNER_COUNT);
 }
 
 /* The lists that tell of a book's sheets have no length: they are always lent. */
@@ -153,6 +173,7 @@ int main(void)
     test_allocate();
     test_allocate_recorded();
     test_checks();
+    test_slacks();
     test_books();
     test_strands();
     return finished("lists of no bytes at NULL");

@@ -141,12 +141,12 @@ static void test_price(uint32_t price)
 static void test_texts(void)
 {
     const char *const none = shares_refusal_text(255);
-    for (uint8_t i = SHARES_OK; i <= SHARES_UNLIKE_SHEETS; i++) {
+    for (uint8_t i = SHARES_OK; i <= SHARES_BAD_SLACK; i++) {
         expect("refusal text", "of its own", strcmp(shares_refusal_text(i), none) != 0, 1);
         for (uint8_t j = 0; j < i; j++)
             expect("refusal text", "each another", strcmp(shares_refusal_text(i), shares_refusal_text(j)) != 0, 1);
     }
-    for (uint8_t i = SHARES_UNLIKE_SHEETS + 1; i != 0; i++)
+    for (uint8_t i = SHARES_BAD_SLACK + 1; i != 0; i++)
         expect("refusal text", "no such number", strcmp(shares_refusal_text(i), none) == 0, 1);
 }
 
@@ -220,7 +220,22 @@ static void test_lists(void)
 {
     uint8_t dominating[FEW];
     for (size_t k = 0; k < sizeof lists / sizeof *lists; k++)
-        expect_verdict(shares_check_list(crossed, sizeof crossed, lists[k].owners, FEW, dominating, FEW), &lists[k]);
+        expect_verdict(shares_check_list(crossed, sizeof crossed, lists[k].owners, FEW, 1, dominating, FEW), &lists[k]);
+}
+
+/* The list that wastes at slack 1 is unfair at 0, wastes at the greatest slack, and above that is not judged. */
+static void test_slacks(void)
+{
+    const struct judged unfair = {{2, 1}, {0, 0}, 0x2010200, SHARES_UNFAIR, 0, 1, 2};
+    const struct judged wasteful = {{2, 1}, {0, 0}, 0x0000300, SHARES_WASTEFUL, 0, 0, 0};
+    const struct judged refused = {{2, 1}, {0, 0}, 13, SHARES_REFUSED, SHARES_BAD_SLACK, 0, 0};
+    const uint8_t greatest = SHARES_MAX_SLACK, above = SHARES_MAX_SLACK + 1;
+    uint8_t dominating[FEW];
+    expect("limits", "the greatest slack", greatest, 8);
+    expect_verdict(shares_check_list(crossed, sizeof crossed, unfair.owners, FEW, 0, dominating, FEW), &unfair);
+    expect_verdict(shares_check_list(crossed, sizeof crossed, wasteful.owners, FEW, greatest, dominating, FEW),
+                   &wasteful);
+    expect_verdict(shares_check_list(crossed, sizeof crossed, refused.owners, FEW, above, dominating, FEW), &refused);
 }
 
 static void test_priced_lists(void)
@@ -244,7 +259,7 @@ static void test_first_pair(void)
     uint8_t dominating[SIX], prices[SHARES_PRICE_BYTES * SIX];
     for (size_t c = 0; c < SIX; c++)
         shares_set_price(prices, c, 3);
-    expect("first pair", "unfair", shares_check_list(sheet, sizeof sheet, owners, SIX, dominating, SIX), 0x3010200);
+    expect("first pair", "unfair", shares_check_list(sheet, sizeof sheet, owners, SIX, 1, dominating, SIX), 0x3010200);
     expect("first pair", "price envy", shares_check_prices(sheet, sizeof sheet, owners, SIX, prices, sizeof prices),
            0x3010600);
 }
@@ -280,6 +295,7 @@ int main(void)
     test_price(UINT32_MAX);
     test_texts();
     test_lists();
+    test_slacks();
     test_priced_lists();
     test_first_pair();
     test_off_price(1);

@@ -73,10 +73,11 @@ static uint8_t allocate_recorded(const uint8_t *s, size_t s_len, size_t owners_l
                                     scratch_len, lent.record, record_len, lent.moves, lent.cuts);
 }
 
-static uint32_t check_list(const uint8_t *s, size_t s_len, const uint8_t *o, size_t o_len, size_t dominating_len)
+static uint32_t check_list(const uint8_t *s, size_t s_len, const uint8_t *o, size_t o_len, uint8_t slack,
+                           size_t dominating_len)
 {
     fill();
-    return shares_check_list(s, s_len, o, o_len, lent.dominating, dominating_len);
+    return shares_check_list(s, s_len, o, o_len, slack, lent.dominating, dominating_len);
 }
 
 static uint32_t check_prices(const uint8_t *s, size_t s_len, const uint8_t *o, size_t o_len, const uint8_t *p,
@@ -107,6 +108,18 @@ static const uint8_t bad_owners[CHORES + 1] = {2, 2, 1, 1, 2, 0};
 static const uint8_t bad_prices[PRICES - 1] = {0};
 static const uint8_t zero_prices[PRICES] = {0};
 
+/* The slack is looked at last: with one that is taken and with one that is not, the number is another fault's. */
+static void expect_at_any_slack(const char *what, const uint8_t *s, size_t s_len, const uint8_t *o, size_t o_len,
+                                size_t dominating_len, uint8_t number)
+{
+    static const uint8_t slacks[] = {0, 1, SHARES_MAX_SLACK, SHARES_MAX_SLACK + 1, 255};
+    char call[100];
+    for (size_t k = 0; k < sizeof slacks; k++) {
+        snprintf(call, sizeof call, "check_list, slack %d", slacks[k]);
+        expect_kept(call, what, check_list(s, s_len, o, o_len, slacks[k], dominating_len), number);
+    }
+}
+
 /* A sheet's number comes before all others. */
 static void test_sheets(void)
 {
@@ -125,9 +138,8 @@ static void test_sheets(void)
         expect_kept("allocate_recorded without a record", what,
                     allocate_recorded(bytes, length, CHORES, PRICES, SHARES_SCRATCH, 0), number);
         expect_kept("allocate_recorded into nothing", what, allocate_recorded(bytes, length, 0, 0, 0, 0), number);
-        expect_kept("check_list", what, check_list(bytes, length, owners, CHORES, CHORES), number);
-        expect_kept("check_list of a bad list", what, check_list(bytes, length, bad_owners, sizeof bad_owners, 0),
-                    number);
+        expect_at_any_slack(what, bytes, length, owners, CHORES, CHORES, number);
+        expect_at_any_slack(what, bytes, length, bad_owners, sizeof bad_owners, 0, number);
         expect_kept("check_prices", what, check_prices(bytes, length, owners, CHORES, prices, PRICES), number);
         expect_kept("check_prices of bad lists", what,
                     check_prices(bytes, length, bad_owners, sizeof bad_owners, bad_prices, sizeof bad_prices), number);
@@ -199,43 +211,60 @@ static void test_allocate_recorded(void)
                 allocate_recorded(sheet, WHOLE, CHORES, PRICES, s - 1, RECORD - 1), SHARES_SHORT_LIST);
 }
 
+/* The number of entries, then each of them, then the list that is lent, then the slack. */
 static void test_check_list(void)
 {
     uint8_t changed[CHORES + 1] = {2, 2, 1, 1, 2, 1};
-    expect_kept("check_list", "holds", shares_verdict_kind(check_list(sheet, WHOLE, owners, CHORES, CHORES)),
+    expect_kept("check_list", "holds", shares_verdict_kind(check_list(sheet, WHOLE, owners, CHORES, 1, CHORES)),
                 SHARES_HOLDS);
-    expect_kept("check_list", "4 owners", check_list(sheet, WHOLE, changed, CHORES - 1, CHORES),
-                SHARES_BAD_OWNER_COUNT);
-    expect_kept("check_list", "6 owners", check_list(sheet, WHOLE, changed, CHORES + 1, CHORES),
-                SHARES_BAD_OWNER_COUNT);
+    expect_at_any_slack("4 owners", sheet, WHOLE, changed, CHORES - 1, CHORES, SHARES_BAD_OWNER_COUNT);
+    expect_at_any_slack("6 owners", sheet, WHOLE, changed, CHORES + 1, CHORES, SHARES_BAD_OWNER_COUNT);
     changed[4] = 0;
-    expect_kept("check_list", "owner 0", check_list(sheet, WHOLE, changed, CHORES, CHORES), SHARES_BAD_OWNER);
+    expect_at_any_slack("owner 0", sheet, WHOLE, changed, CHORES, CHORES, SHARES_BAD_OWNER);
     changed[4] = 3;
-    expect_kept("check_list", "owner 3", check_list(sheet, WHOLE, changed, CHORES, CHORES), SHARES_BAD_OWNER);
-    expect_kept("check_list", "4 entries lent", check_list(sheet, WHOLE, owners, CHORES, CHORES - 1),
-                SHARES_SHORT_LIST);
-    /* The number of entries, then each of them, then the list that is lent. */
-    expect_kept("check_list", "6 owners, one of them 0",
-                check_list(sheet, WHOLE, bad_owners, sizeof bad_owners, CHORES), SHARES_BAD_OWNER_COUNT);
-    expect_kept("check_list", "4 owners, 4 entries lent", check_list(sheet, WHOLE, owners, CHORES - 1, CHORES - 1),
-                SHARES_BAD_OWNER_COUNT);
-    expect_kept("check_list", "owner 3, 4 entries lent", check_list(sheet, WHOLE, changed, CHORES, CHORES - 1),
-                SHARES_BAD_OWNER);
+    expect_at_any_slack("owner 3", sheet, WHOLE, changed, CHORES, CHORES, SHARES_BAD_OWNER);
+    expect_at_any_slack("4 entries lent", sheet, WHOLE, owners, CHORES, CHORES - 1, SHARES_SHORT_LIST);
+    expect_at_any_slack("6 owners, one of them 0", sheet, WHOLE, bad_owners, sizeof bad_owners, CHORES,
+                        SHARES_BAD_OWNER_COUNT);
+    expect_at_any_slack("4 owners, 4 entries lent", sheet, WHOLE, owners, CHORES - 1, CHORES - 1,
+                        SHARES_BAD_OWNER_COUNT);
+    expect_at_any_slack("owner 3, 4 entries lent", sheet, WHOLE, changed, CHORES, CHORES - 1, SHARES_BAD_OWNER);
     memset(changed, 1, CHORES);
-    expect_kept("check_list", "unfair", shares_verdict_kind(check_list(sheet, WHOLE, changed, CHORES, CHORES)),
+    expect_kept("check_list", "unfair", shares_verdict_kind(check_list(sheet, WHOLE, changed, CHORES, 1, CHORES)),
                 SHARES_UNFAIR);
 
     /* Rows edee and deee: agent 2 envies, and both would gain by a swap. It is called unfair, and nothing is shown. */
     const uint8_t longer[] = {2, 0, 4, 0, 1, 0, 2, 0x40, 0x80}, both[] = {2, 1, 2, 2};
-    expect_kept("check_list", "unfair and wasteful", check_list(longer, sizeof longer, both, 4, CHORES), 0x1020200);
+    expect_kept("check_list", "unfair and wasteful", check_list(longer, sizeof longer, both, 4, 1, CHORES), 0x1020200);
 
     /* Rows ed and de. */
     const uint8_t crossed[] = {2, 0, 2, 0, 1, 0, 2, 0x40, 0x80};
     const uint8_t worst[] = {2, 1}, best[] = {1, 2};
-    uint32_t wasteful = check_list(crossed, sizeof crossed, worst, 2, CHORES);
+    uint32_t wasteful = check_list(crossed, sizeof crossed, worst, 2, 1, CHORES);
     expect("check_list", "wasteful", shares_verdict_kind(wasteful), SHARES_WASTEFUL);
     expect("check_list", "the list shown", memcmp(lent.dominating, best, 2) == 0, 1);
     expect("check_list", "beyond it", memcmp(lent.dominating + 2, before.dominating + 2, CHORES - 2) == 0, 1);
+    expect_kept("check_list", "wasteful, slack 9", check_list(crossed, sizeof crossed, worst, 2, 9, CHORES),
+                SHARES_BAD_SLACK);
+}
+
+/* Every slack up to 8 is taken, and above it nothing is told of a list. The share-out's own has agent 2 envy agent 1,
+ * by one chore. Where agent 1 has all five chores, a slack of five takes all of them off. */
+static void test_slacks(void)
+{
+    const uint8_t all_with_one[CHORES] = {1, 1, 1, 1, 1};
+    const uint32_t holds = SHARES_HOLDS << 8;
+    char what[100];
+    for (uint32_t t = 0; t <= UINT8_MAX; t++) {
+        const uint8_t slack = (uint8_t)t;
+        uint32_t own = t == 0 ? 0x1020200 : holds, all = t < CHORES ? 0x2010200 : holds;
+        if (t > 8)
+            own = all = SHARES_BAD_SLACK;
+        snprintf(what, sizeof what, "slack %" PRIu32, t);
+        expect_kept("check_list", what, check_list(sheet, WHOLE, owners, CHORES, slack, CHORES), own);
+        expect_kept("check_list, all with agent 1", what,
+                    check_list(sheet, WHOLE, all_with_one, CHORES, slack, CHORES), all);
+    }
 }
 
 /* The number of owners, then each of them, then the prices. */
@@ -492,6 +521,7 @@ int main(void)
     test_allocate();
     test_allocate_recorded();
     test_check_list();
+    test_slacks();
     test_priced_owners();
     test_prices();
     test_no_books();

@@ -112,7 +112,9 @@ static void test_dealt(const char *what, uint32_t n, size_t m)
     expect("allocate", what, allocate(length, m), SHARES_OK);
     expect("allocate, moves and cuts", what, lent.moves[0] == 0 && lent.cuts[0] == 0, 1);
     expect_lists("allocate", what, m);
-    expect("check_list", what, shares_check_list(sheet, length, owners, m, lent.owners, m), SHARES_HOLDS << 8);
+    for (uint8_t slack = 0; slack <= SHARES_MAX_SLACK; slack++)
+        expect("check_list", what, shares_check_list(sheet, length, owners, m, slack, lent.owners, m),
+               SHARES_HOLDS << 8);
     expect("check_prices", what,
            shares_check_prices(sheet, length, owners, m, lent.prices, SHARES_PRICE_BYTES * m), SHARES_ACCEPTED << 8);
     expect("a byte too few", what, allocate(length - 1, m), SHARES_BAD_LENGTH);
@@ -154,7 +156,7 @@ static void test_swapped(const char *what, uint32_t n, size_t m)
     allocate(length, m);
     expect("off price", what, shares_check_prices(sheet, length, owners, m, lent.prices, SHARES_PRICE_BYTES * m),
            SHARES_OFF_PRICE << 8 | (uint32_t)before << 16);
-    expect("wasteful", what, shares_check_list(sheet, length, owners, m, lent.owners, m), SHARES_WASTEFUL << 8);
+    expect("wasteful", what, shares_check_list(sheet, length, owners, m, 1, lent.owners, m), SHARES_WASTEFUL << 8);
     expect("the list shown", what, dominates(lent.owners, n, m), 1);
 }
 

@@ -29,6 +29,9 @@ static uint32_t firsts[SHARES_BOOK_SHEETS];
 static uint8_t joined[SHEET], strand;
 static size_t start, size, written;
 
+/* What the list check is handed. */
+static uint8_t slack;
+
 /* What came back: the bits of all refusal numbers, and a bit for each kind of verdict. */
 static uint32_t refused, kinds;
 
@@ -45,7 +48,7 @@ static void allocate_recorded(void)
 
 static void check_list(void)
 {
-    kinds |= 1u << shares_verdict_kind(shares_check_list(lent.sheet, SHEET, owners, CHORES, dominating, CHORES));
+    kinds |= 1u << shares_verdict_kind(shares_check_list(lent.sheet, SHEET, owners, CHORES, slack, dominating, CHORES));
 }
 
 static void check_prices(void)
@@ -151,15 +154,25 @@ static void swap_owners(void)
     owners[c] = owner;
 }
 
+/* Both checks, at every slack. */
+static void measure_checks(void)
+{
+    for (uint8_t t = 0; t <= SHARES_MAX_SLACK; t++) {
+        slack = t;
+        measure_calls(CHECKS, CHECKS_END);
+    }
+}
+
 /* All calls on a sheet; both checks on its own list, on one that wastes and on one that is unfair. */
 static void measure_all(uint32_t seed)
 {
     make_joinable(&lent, seed);
     measure_calls(0, CALLS);
+    measure_checks();
     swap_owners();
-    measure_calls(CHECKS, CHECKS_END);
+    measure_checks();
     memset(owners, 1, CHORES);
-    measure_calls(CHECKS, CHECKS_END);
+    measure_checks();
 }
 
 int main(void)

@@ -189,8 +189,9 @@ static void expect_taken(const char *what)
            SHARES_OK);
     expect("allocate, joined", what,
            shares_allocate(sheet, whole, owners, m, prices, 4 * m, scratch, sizeof scratch, &moves, &cuts), SHARES_OK);
-    expect("check_list, joined", what, shares_verdict_kind(shares_check_list(sheet, whole, owners, m, dominating, m)),
-           SHARES_HOLDS);
+    for (uint8_t slack = 1; slack <= SHARES_MAX_SLACK; slack++)
+        expect("check_list, joined", what,
+               shares_verdict_kind(shares_check_list(sheet, whole, owners, m, slack, dominating, m)), SHARES_HOLDS);
     expect("check_prices, joined", what,
            shares_verdict_kind(shares_check_prices(sheet, whole, owners, m, prices, 4 * m)), SHARES_ACCEPTED);
 }
@@ -405,7 +406,7 @@ static void test_not_there(void)
 static enum shares_kind kind_of(const uint8_t *sheet, size_t m, const uint8_t *owners)
 {
     static uint8_t dominating[4];
-    return shares_verdict_kind(shares_check_list(sheet, SHARES_SHEET_BYTES(2, m), owners, m, dominating, m));
+    return shares_verdict_kind(shares_check_list(sheet, SHARES_SHEET_BYTES(2, m), owners, m, 1, dominating, m));
 }
 
 /* Lists that hold on a joined sheet, and their parts on the two strands. */

@@ -16,7 +16,8 @@ struct answer {
     uint8_t joined[SHEET];
     uint64_t moves, recorded_moves;
     size_t written, start, size;
-    uint32_t refusal, cuts, recorded, recorded_cuts, list, edited, priced, joining, showing, strand;
+    uint32_t refusal, cuts, recorded, recorded_cuts, edited, priced, joining, showing, strand;
+    uint32_t lists[SHARES_MAX_SLACK + 1]; /* the list at each slack */
 };
 
 static struct joinable lent[SHEETS];
@@ -44,11 +45,13 @@ static void ask(const struct joinable *from, struct answer *answer)
                                                 PRICES, scratch, sizeof scratch, answer->record, RECORD,
                                                 &answer->recorded_moves, &cuts);
     answer->recorded_cuts = cuts;
-    answer->list = shares_check_list(sheet, SHEET, answer->owners, CHORES, answer->dominating, CHORES);
+    for (uint8_t slack = 0; slack <= SHARES_MAX_SLACK; slack++)
+        answer->lists[slack] =
+            shares_check_list(sheet, SHEET, answer->owners, CHORES, slack, answer->dominating, CHORES);
     answer->priced = shares_check_prices(sheet, SHEET, answer->owners, CHORES, answer->prices, PRICES);
     memcpy(edited, answer->owners, CHORES);
     edited[0] = (uint8_t)(1 + edited[0] % AGENTS);
-    answer->edited = shares_check_list(sheet, SHEET, edited, CHORES, answer->dominating, CHORES);
+    answer->edited = shares_check_list(sheet, SHEET, edited, CHORES, 1, answer->dominating, CHORES);
     ask_of_strands(from, answer);
 }
 
@@ -74,6 +77,8 @@ int main(void)
         expect("alone", "shared out", alone[i].refusal, SHARES_OK);
         expect("alone", "shared out with a record", alone[i].recorded, SHARES_OK);
         expect("alone", "accepted", shares_verdict_kind(alone[i].priced), SHARES_ACCEPTED);
+        for (size_t slack = 1; slack <= SHARES_MAX_SLACK; slack++)
+            expect("alone", "holds at each slack from 1 on", alone[i].lists[slack], SHARES_HOLDS << 8);
         expect("alone", "joined", alone[i].joining, SHARES_OK);
         expect("alone", "marks shown", alone[i].showing, SHARES_OK);
     }
