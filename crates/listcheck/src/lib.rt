@@ -13,10 +13,9 @@ fn list_refusal(sheet: &[u8], owners: &[u8], slack: u8, lent: usize) -> u8
         return refusal;
     }
     let m = sheet::chores(sheet);
-    sheet::or_else(
-        sheet::lent_refusal(m, lent),
-        sheet::when(13, slack > model::MAX_SLACK),
-    )
+    let room = sheet::lent_refusal(m, lent);
+    let within = sheet::when(13, slack > model::MAX_SLACK);
+    sheet::or_else(room, within)
 }
 
 // Unfair agents come first: waste is looked for in an even list only. The lent list is written with `Wasteful` alone.
