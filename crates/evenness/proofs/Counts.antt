@@ -11,8 +11,7 @@ use Rattle.finite.proofs.Below.{by-less}
 use Rattle.finite.proofs.Counts.{count-zero, count-hit, count-miss, count-le, count-longer}
 use Rattle.model.specs.Instance.{ownerOf}
 use Rattle.model.specs.Sheet.{choresOf, easyWeight, difficultWeight, marksEasy, asMarked}
-use Rattle.model.specs.Fairness.{owns, costTo}
-use Rattle.model.specs.Slack.{restCost}
+use Rattle.model.specs.Fairness.{owns}
 use Rattle.welfare.proofs.Costs.{owned-by, owned-not}
 use Rattle.welfare.proofs.OffCounts.{off-by-counts}
 use Rattle.given.specs.Given.{Given}
@@ -34,9 +33,6 @@ module _ (s owners : List ℕ) (i : ℕ) where
   counted-none = record { difficults = sym (count-zero _); easies = sym (count-zero _) }
 
   module _ {c difficult easy : ℕ} (k : Counted s owners i c difficult easy) where
-    pub few-difficult : difficult ≤ c
-    few-difficult = rw (k .difficults) (count-le c _)
-
     pub few-easy : easy ≤ c
     few-easy = rw (k .easies) (count-le c _)
 

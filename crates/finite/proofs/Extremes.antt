@@ -3,7 +3,7 @@
 use Prim.Native.Nat.{ℕ, zero, suc, _+_, _*_, _≤_, _<_, min, max, zero-le}
 use mathlib.Core.Bool.{Bool, true, false, cond}
 use mathlib.Core.Path.{_≡_, refl, sym, ap, ap₂, _∙_}
-use native.Mathlib.Nat.{le-refl, le-trans, le-antisymm, add-zero, add-suc, mul-zero, mul-le-mul-left, max-eq-left, max-eq-right, min-eq-left, min-eq-right, le-of-lt}
+use native.Mathlib.Nat.{le-refl, le-trans, add-zero, add-suc, mul-zero, mul-le-mul-left, max-eq-left, max-eq-right, min-eq-left, min-eq-right, le-of-lt}
 use native.Mathlib.Numerals.{add-one}
 use native.Mathlib.Omega.{arith}
 use lib.Dec.{leb}
@@ -132,11 +132,6 @@ peak-attained {n} t f k l p =
     (λ h. let z : 0 ≡ maxTo n (λ i. cond (t i) (f i) 0) = rw h at q in
     let b : f k ≤ maxTo n (λ i. cond (t i) (f i) 0) = peak-above t f k l p in
     record { index = k; below = l; passes = p; value = omega arith; above = peak-above t f })
-
--- nothing after the first k is greater
-pub peak-stays : {k n : ℕ} (t : ℕ → Bool) {f : ℕ → ℕ} → k ≤ n → ((i : ℕ) → i < n → t i ≡ true → f i ≤ maxWhere k t f) → maxWhere k t f ≡ maxWhere n t f
-peak-stays {k} {n} t {f} l most =
-    le-antisymm (peak-at-most k t (λ i below. peak-above t f i (omega arith))) (peak-at-most n t most)
 
 pub peak-cong : (n : ℕ) {t u : ℕ → Bool} {f g : ℕ → ℕ} → ((i : ℕ) → i < n → t i ≡ u i) → ((i : ℕ) → i < n → u i ≡ true → f i ≡ g i) → maxWhere n t f ≡ maxWhere n u g
 unfolding maxWhere

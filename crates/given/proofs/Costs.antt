@@ -3,7 +3,7 @@
 use Prim.Native.Nat.{ℕ, _≤_, _<_}
 use mathlib.Core.Bool.{Bool, cond}
 use mathlib.Core.List.{List}
-use mathlib.Core.Path.{_≡_, refl, sym}
+use mathlib.Core.Path.{_≡_, sym}
 use native.Mathlib.Nat.{le-of-lt}
 use native.Mathlib.Omega.{arith}
 use lib.Dec.{eqb}
@@ -12,7 +12,6 @@ use Rattle.finite.proofs.Below.{by-top}
 use Rattle.finite.proofs.Packed.{digit-below, digit-is}
 use Rattle.model.specs.Instance.{cost}
 use Rattle.model.specs.Sheet.{easyWeight, difficultWeight, isDifficult, marksEasy, asMarked}
-use Rattle.sheet.specs.Readers.{InSheet}
 use Rattle.welfare.proofs.Costs.{cost-at-most, cost-at-least}
 use Rattle.given.specs.Given.{Weighed, Marked, Costed, Cost}
 
@@ -33,13 +32,6 @@ read-marked easier t read = record { easier = easier; either = rw read (digit-be
 
 -- a cost that was read
 module _ {s : List ℕ} {m a b i c : ℕ} (k : Costed s m a b i c) where
-  pub costed-in-sheet : InSheet s m i c
-  costed-in-sheet =
-      record { valid = k .weighed .valid; chores = k .weighed .chores; agent = k .agent; chore = rw (← k .weighed .chores) (k .chore) }
-
-  pub costed-marked : Marked a b (cond (isDifficult s i c) 1 0)
-  costed-marked = read-marked (weighed-easier (k .weighed)) (isDifficult s i c) refl
-
   pub cost-read : {r : ℕ} → r ≡ cond (eqb (cond (isDifficult s i c) 1 0) 1) b a → Cost (cost (asMarked s) i c) r
   unfolding cost asMarked marksEasy
   cost-read {r} e =

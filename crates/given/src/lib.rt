@@ -1,16 +1,16 @@
-// What the two checks are given: a list of owners, judged against its sheet; whose a chore is, what it costs, as the sheet's marks say, and
-// which chore of an agent is the first difficult one.
+// What the two checks are given: a list of owners, judged against its sheet; whose a chore is, what a mark costs, and which chore of an agent is
+// the first difficult one.
 
 ghost use mathlib.Core.Path.{_≡_};
 ghost use Prim.Native.Nat.{_<_};
 ghost use mathlib.Core.Bool.{cond};
 ghost use lib.Dec.{eqb};
 ghost use Rattle.finite.specs.Search.{firstBelow};
-ghost use Rattle.model.specs.Instance.{cost, ownerOf};
-ghost use Rattle.model.specs.Sheet.{agentsOf, asMarked};
+ghost use Rattle.model.specs.Instance.{ownerOf};
+ghost use Rattle.model.specs.Sheet.{agentsOf};
 ghost use Rattle.model.specs.Refusals.{ownersRefusal};
 ghost use Rattle.sheet.specs.Readers.{Read};
-ghost use Rattle.given.specs.Given.{givenRefusal, Given, Owned, Marked, Costed, Cost};
+ghost use Rattle.given.specs.Given.{givenRefusal, Given, Owned, Marked};
 ghost use Rattle.given.specs.Burdens.{burdens};
 
 // The number that a list of owners is turned down with, 0 where it is not.
@@ -59,14 +59,6 @@ pub fn mark_cost(a: u32, b: u32, mark: u8) -> u32
     ensures { λ r. ⌜ r ≡ cond (eqb mark 1) b a ⌝ }
 {
     a + (b - a) * mark as u32
-}
-
-// What a chore costs an agent, as marked: one of the sheet's weights `a` and `b`.
-pub fn cost(sheet: &[u8], m: usize, a: u32, b: u32, i: usize, c: usize) -> u32
-    requires { ⌜ Costed (now sheet) m a b i c ⌝ }
-    ensures { λ r. ⌜ Cost (cost (asMarked (now (sheet .entry))) i c) r ⌝ }
-{
-    mark_cost(a, b, sheet::mark_at(sheet, m, i, c))
 }
 
 // The first chore of agent i that is difficult for it, m where there is none.

@@ -28,4 +28,4 @@ pub starred : MeetsAll table
 unfolding table sheetC bookC bookOfTwo entries sheetD sheetE sheetS sheet2a strand1 strand2 eight twoEasy agents chores tooMany bookOf bytes sheet marks row allRows firstCount header Meets MeetsAll Computed ComputedAll seen isDone differs dominatesToo sumTo maxTo minTo sumWhere maxWhere anyBelow allBelow firstStep firstBelow chosen tabulate someList wordAt reach bit bitAt packBits packedByte packed cost ownerOf priceOf agentsOf choresOf easyWeight difficultWeight rowOf isDifficult marksEasy sheetLength allDifficult asMarked asRead agree joinedChores joinedMark joinedRow joinedRows joinedHeader joinedSheet inFirst strandSheet strandMarks owns holdsAny countTo total costTo totalCost costWithout fair ef1 costliest withoutCostliest leftAfter restCost fairUpTo evenUpTo dominates entriesInRange isAllocation dominated ratioAtMost best dearest priceUpToOne bundleSize fewest opensWith openedBefore openingOwner openingPrice opening group isEntitled giver2a receiver2a due2a chore2a action2a leastSum above supplies ofLeastSum within reachable atDistance ring2b due2b giver2b receiver2b chore2b action2b action handed passed inNewGroup afterCut result step next after roundOf stepOf handsOver nextMoves movesIn moveBytes recordOf _orElse_ setAfter marksFault headerRefusal sheetRefusal ownersRefusal pricesRefusal lentRefusal allocateRefusal recordRefusal recordedRefusal strandsRefusal joinRefusal showRefusal slackRefusal listRefusal priceRefusal firstOfPair secondOfPair unlessRefused envies listVerdict firstOffPrice enviesByPrice priceVerdict listCheck priceCheck contentsRefusal bookRefusal sheetCount sheetStart sheetSize sheetEnd bodyStart bookFits
 starred =
     met-all 17 table
-    ((refl, refl), ((refl, refl), ((refl, refl), ((refl, refl), ((refl, refl), ((refl, refl), ((refl, refl), ((refl, refl), ((refl, refl), ((refl, refl), ((refl, refl), ((refl, refl), ((refl, refl), ((refl, refl), ((refl, refl), ((refl, refl), ((refl, refl), ((refl, refl), (refl, (refl, (refl, (refl, ((refl, refl, refl), (refl, (refl, (refl, (refl, (refl, (refl, (refl, (refl, (refl, (refl, (refl, (refl, (refl, (refl, (refl, (refl, (refl, (refl, (refl, (refl, (refl, (refl, (refl, (refl, (refl, (refl, (refl, (refl, (refl, (refl, (refl, (refl, (refl, (refl, (refl, (refl, (refl, (refl, (refl, (refl, (refl, (refl, (refl, (refl, (refl, (refl, (refl, (refl, (refl, (refl, ((refl, refl), (refl, (refl, (refl, (refl, (refl, (refl, (refl, (refl, (refl, (refl, (refl, (refl, (refl, (refl, (refl, (refl, (refl, ((refl, refl, refl), ((refl, refl, refl), (refl, (refl, (refl, ((refl, refl), ((refl, refl), ((refl, refl), ((refl, refl), (refl, (refl, ((refl, refl), ((refl, refl), ((refl, refl), (refl, (refl, (refl, (refl, (refl, (refl, (refl, (refl, (refl, (refl, (refl, ((refl, refl), ((refl, refl), ((refl, refl), ((refl, refl), (refl, (refl, (refl, (refl, (refl, ((refl, refl), (refl, (refl, ((refl, refl), tt)))))))))))))))))))))))))))))))))))))))))))))))))))))))))))))))))))))))))))))))))))))))))))))))))))))))))))))))))))))))))))))))))
+    ((refl, refl), ((refl, refl), ((refl, refl), ((refl, refl), ((refl, refl), ((refl, refl), ((refl, refl), ((refl, refl), ((refl, refl), ((refl, refl), ((refl, refl), ((refl, refl), ((refl, refl), ((refl, refl), ((refl, refl), ((refl, refl), ((refl, refl), ((refl, refl), (refl, (refl, (refl, (refl, ((refl, refl, refl), (refl, (refl, (refl, (refl, (refl, (refl, (refl, (refl, (refl, (refl, (refl, (refl, (refl, (refl, (refl, (refl, (refl, (refl, (refl, (refl, (refl, (refl, (refl, (refl, (refl, (refl, (refl, (refl, (refl, (refl, (refl, (refl, (refl, (refl, (refl, (refl, (refl, (refl, (refl, (refl, (refl, (refl, (refl, (refl, (refl, (refl, (refl, (refl, (refl, (refl, (refl, (refl, ((refl, refl), (refl, (refl, (refl, (refl, (refl, (refl, (refl, (refl, (refl, (refl, (refl, (refl, (refl, (refl, (refl, (refl, (refl, ((refl, refl, refl), ((refl, refl, refl), (refl, (refl, (refl, ((refl, refl), ((refl, refl), ((refl, refl), ((refl, refl), (refl, (refl, ((refl, refl), ((refl, refl), ((refl, refl), (refl, (refl, (refl, (refl, (refl, (refl, (refl, (refl, (refl, (refl, (refl, ((refl, refl), ((refl, refl), ((refl, refl), ((refl, refl), (refl, (refl, (refl, (refl, (refl, ((refl, refl), (refl, (refl, ((refl, refl), tt)))))))))))))))))))))))))))))))))))))))))))))))))))))))))))))))))))))))))))))))))))))))))))))))))))))))))))))))))))))))))))))))))))

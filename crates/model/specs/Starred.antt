@@ -122,6 +122,9 @@ table =
     ∷ listed sheetS (1 ∷ 1 ∷ 1 ∷ 2 ∷ 3 ∷ []) 0 5 (unfair 1 2)
     ∷ listed sheetS (1 ∷ 1 ∷ 1 ∷ 2 ∷ 3 ∷ []) 1 5 (unfair 1 3)
     ∷ listed sheetS (1 ∷ 1 ∷ 1 ∷ 2 ∷ 3 ∷ []) 2 5 holds
+    -- agent 2 goes by its own costs: what it holds, and which of it is the costliest
+    ∷ listed sheetC (2 ∷ 2 ∷ 1 ∷ 1 ∷ 2 ∷ []) 0 5 (unfair 2 1)
+    ∷ listed (sheet 1 3 ("eee" ∷ "ede" ∷ [])) (2 ∷ 2 ∷ 1 ∷ []) 1 3 wasteful
     -- "plain envy-freeness": a list that has it, and one that is wasteful at a slack of 1
     ∷ listed sheetE (1 ∷ 2 ∷ []) 0 2 holds
     ∷ listed sheetE (2 ∷ 1 ∷ []) 0 2 (unfair 1 2)

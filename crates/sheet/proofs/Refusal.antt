@@ -97,11 +97,7 @@ pub lent-ok : {needed lent : ℕ} → needed ≤ lent → lentRefusal needed len
 unfolding lentRefusal
 lent-ok {needed} {lent} l = rw (le-ltb lent needed l)
 
--- refusal 13 of 0 says that the slack is within its limit
-pub slack-fits : {slack : ℕ} → slackRefusal slack ≡ 0 → slack ≤ maxSlack
-unfolding slackRefusal
-slack-fits {slack} e = ltb-false maxSlack slack (when-none _ 12 e)
-
+-- and a slack within its limit is not turned down
 pub slack-ok : {slack : ℕ} → slack ≤ maxSlack → slackRefusal slack ≡ 0
 unfolding slackRefusal
 slack-ok {slack} l = rw (le-ltb maxSlack slack l)

@@ -8,8 +8,8 @@ use lib.Dec.{leb}
 use borrow.Author.Tests.{leb-true, le-leb, not-true}
 use Rattle.finite.specs.Sums.{maxWhere}
 use Rattle.finite.specs.Search.{anyBelow, allBelow}
-use Rattle.finite.proofs.Tests.{by-test, bool-eq, not-on, and-elim, and-intro, or-cases, or-left, or-right}
-use Rattle.finite.proofs.Search.{any-elim, any-intro, any-none, all-elim, all-intro}
+use Rattle.finite.proofs.Tests.{by-test, not-on, and-elim, and-intro, or-cases, or-left, or-right}
+use Rattle.finite.proofs.Search.{any-elim, any-intro, any-none, all-intro}
 use Rattle.finite.proofs.Where.{where-none, where-off}
 use Rattle.finite.proofs.Extremes.{peak-attained, peak-above}
 use Rattle.model.specs.Instance.{Instance, cost}
@@ -59,17 +59,8 @@ module _ (I : Instance) (x : ℕ → ℕ) where
   pub fair-intro : (i j : ℕ) → (holdsAny (I .m) x i ≡ true → costTo I x i i ≤ costTo I x i j + maxWhere (I .m) (owns x i) (cost I i)) → fair I x i j ≡ true
   fair-intro i j h = by-test (holdsAny (I .m) x i) (λ e. costliest-off i j e (h e)) (λ e. fair-idle i j e)
 
-  -- one comparison decides, also where i holds nothing
-  pub fair-test : (i j : ℕ) → fair I x i j ≡ leb (costTo I x i i) (costTo I x i j + maxWhere (I .m) (owns x i) (cost I i))
-  fair-test i j = bool-eq (λ e. le-leb _ _ (fair-elim i j e)) (λ e. fair-intro i j (λ _. leb-true _ _ e))
-
   pub fair-self : (i : ℕ) → fair I x i i ≡ true
   fair-self i = fair-intro i i (λ _. omega arith)
-
-  pub ef1-elim : ef1 I x ≡ true → (i j : ℕ) → i < I .n → j < I .n → fair I x i j ≡ true
-  unfolding ef1
-  ef1-elim e i j l k =
-      all-elim (I .n) (λ j. fair I x i j) (all-elim (I .n) (λ i. allBelow (I .n) (λ j. fair I x i j)) e i l) j k
 
   pub ef1-intro : ((i j : ℕ) → i < I .n → j < I .n → fair I x i j ≡ true) → ef1 I x ≡ true
   unfolding ef1

@@ -1,7 +1,7 @@
 -- With two costs a count is enough: difficult chores are taken off first, then easy ones.
 -- Assumes nothing.
 use Prim.Native.Nat.{ℕ, zero, suc, _+_, _*_, _-_, _≤_, _<_, min}
-use mathlib.Core.Bool.{Bool, true, false, not, _&&_}
+use mathlib.Core.Bool.{Bool, false, not, _&&_}
 use mathlib.Core.Path.{_≡_, refl, sym, ap, ap₂, _∙_}
 use native.Mathlib.Nat.{add-mul}
 use native.Mathlib.Numerals.{unary-clauses}
@@ -9,7 +9,7 @@ use native.Mathlib.Omega.{arith}
 use borrow.Author.Tests.{not-true}
 use Rattle.finite.specs.Sums.{sumWhere, countTo}
 use Rattle.finite.specs.Search.{anyBelow, Hit}
-use Rattle.finite.proofs.Tests.{by-test, clash, and-elim, and-intro, and-no-left, and-rest, not-on, not-off}
+use Rattle.finite.proofs.Tests.{by-test, and-elim, and-intro, and-no-left, not-on}
 use Rattle.finite.proofs.Search.{any-elim, any-none}
 use Rattle.finite.proofs.Where.{where-value, where-split}
 use Rattle.finite.proofs.Counts.{where-const, count-none, count-mono, count-change, count-split}

@@ -16,12 +16,12 @@ use Rattle.finite.proofs.Search.{any-elim, any-intro, all-elim, all-intro, all-
 use Rattle.finite.proofs.Where.{where-none}
 use Rattle.finite.proofs.Counts.{count-empty}
 use Rattle.model.specs.Instance.{Instance, cost}
-use Rattle.model.specs.Fairness.{owns, bundleSize, total, costTo, fair, ef1}
+use Rattle.model.specs.Fairness.{bundleSize, total, costTo, fair, ef1}
 use Rattle.model.specs.Slack.{leftAfter, restCost, fairUpTo, evenUpTo, envyFree}
 use Rattle.model.specs.Verdicts.{envies}
 use Rattle.welfare.specs.Slack.{SlackLaws}
 use Rattle.welfare.proofs.Evenness.{fair-elim, fair-intro}
-use Rattle.welfare.proofs.TakenOff.{off-cost, off-count}
+use Rattle.welfare.proofs.TakenOff.{taken-cost, taken-count}
 
 module _ (I : Instance) (x : ℕ → ℕ) (i : ℕ) where
   pub rest-none : restCost 0 I x i ≡ costTo I x i i
@@ -30,7 +30,7 @@ module _ (I : Instance) (x : ℕ → ℕ) (i : ℕ) where
 
   pub rest-next : (k : ℕ) → restCost (suc k) I x i + maxWhere (I .m) (leftAfter k I x i) (cost I i) ≡ restCost k I x i
   unfolding restCost leftAfter
-  rest-next k = off-cost I i (leftAfter k I x i)
+  rest-next k = taken-cost I i (leftAfter k I x i)
 
   -- the more is taken off, the less is left
   pub rest-falls : (k l : ℕ) → k ≤ l → restCost l I x i ≤ restCost k I x i
@@ -46,7 +46,7 @@ module _ (I : Instance) (x : ℕ → ℕ) (i : ℕ) where
   pub count-left : (k : ℕ) → countTo (I .m) (leftAfter k I x i) ≡ bundleSize (I .m) x i - k
   unfolding leftAfter bundleSize
   count-left zero = simp unary-clauses refl
-  count-left (suc k) = omega (arith, off-count I i (leftAfter k I x i), count-left k)
+  count-left (suc k) = omega (arith, taken-count I i (leftAfter k I x i), count-left k)
 
   rest-few : (t : ℕ) → bundleSize (I .m) x i ≤ t → restCost t I x i ≡ 0
   unfolding restCost

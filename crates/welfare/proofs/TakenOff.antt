@@ -1,9 +1,8 @@
 -- The costliest chore taken off, and again: what is left, what it costs, and how many chores it is.
 -- Assumes nothing.
-use Prim.Native.Nat.{ℕ, zero, suc, _+_, _-_, _≤_, _<_}
-use mathlib.Core.Bool.{Bool, true, false, not, _&&_}
-use mathlib.Core.Path.{_≡_, refl, sym, ap, _∙_}
-use native.Mathlib.Nat.{le-refl, le-antisymm}
+use Prim.Native.Nat.{ℕ, _+_, _-_, _<_}
+use mathlib.Core.Bool.{Bool, true, false, not}
+use mathlib.Core.Path.{_≡_, sym}
 use native.Mathlib.Omega.{arith}
 use lib.Dec.{eqb}
 use borrow.Author.Tests.{ne-eqb}
@@ -73,11 +72,11 @@ module _ (I : Instance) (i : ℕ) (left : ℕ → Bool) where
   by-left some none = by-test (anyBelow (I .m) left) (λ e. some (any-elim (I .m) left e)) (λ e. none (any-none (I .m) left e))
 
   -- what is taken off is the greatest cost
-  pub off-cost : sumWhere (I .m) (withoutCostliest I i left) (cost I i) + maxWhere (I .m) left (cost I i) ≡ sumWhere (I .m) left (cost I i)
-  off-cost = by-left some-cost none-cost
+  pub taken-cost : sumWhere (I .m) (withoutCostliest I i left) (cost I i) + maxWhere (I .m) left (cost I i) ≡ sumWhere (I .m) left (cost I i)
+  taken-cost = by-left some-cost none-cost
 
   -- and it is one chore
-  pub off-count : countTo (I .m) (withoutCostliest I i left) ≡ countTo (I .m) left - 1
-  off-count =
+  pub taken-count : countTo (I .m) (withoutCostliest I i left) ≡ countTo (I .m) left - 1
+  taken-count =
       by-left (λ some. omega (arith, some-count some))
       (λ none. rw (count-none (I .m) left none, count-none (I .m) (withoutCostliest I i left) (none-without none)))

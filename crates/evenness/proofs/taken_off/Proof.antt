@@ -8,7 +8,7 @@ use borrow.Author.Tests.{ltb-true, ltb-false}
 use borrow.Author.Needs.{needs}
 use Rattle.model.specs.Limits.{maxWeight}
 use Rattle.given.proofs.Given.{given-owned}
-use Rattle.evenness.proofs.Counts.{Counted, counted-none, few-difficult, few-easy, counted-easy, counted-difficult, counted-other, off-counted}
+use Rattle.evenness.proofs.Counts.{Counted, counted-none, few-easy, counted-easy, counted-difficult, counted-other, off-counted}
 use Rattle.evenness.proofs.taken_off.Statement.{statement}
 use Rattle.evenness.proofs.taken_off.Tie as tie
 
