@@ -1,21 +1,23 @@
 -- The row reading scales the costs of some agents, and so changes no comparison of an agent's costs: neither evenness, nor waste, nor which
 -- chores are best.
 -- Assumes nothing.
-use Prim.Native.Nat.{ℕ, _*_, _<_}
-use mathlib.Core.Bool.{Bool, true, false, not, _&&_, _||_}
+use Prim.Native.Nat.{ℕ, zero, suc, _+_, _*_, _<_}
+use mathlib.Core.Bool.{Bool, true, false, not, _&&_}
 use mathlib.Core.List.{List}
-use mathlib.Core.Path.{_≡_, ap, ap₂}
+use mathlib.Core.Path.{_≡_, refl, sym, ap, ap₂, _∙_}
 use native.Mathlib.Omega.{arith}
 use lib.Dec.{eqb, leb, ltb}
 use borrow.Author.Tests.{not-true}
 use Rattle.finite.specs.Sums.{sumWhere}
 use Rattle.finite.proofs.Tests.{by-test, or-right, leb-scaled, ltb-scaled}
 use Rattle.finite.proofs.Search.{any-cong, all-elim, all-cong}
-use Rattle.finite.proofs.Where.{where-scale-eq}
+use Rattle.finite.proofs.Where.{where-test, where-scale-eq}
+use Rattle.finite.proofs.Chosen.{chosen-cong}
 use Rattle.finite.proofs.Lists.{list-cong}
 use Rattle.model.specs.Instance.{cost, ownerOf}
 use Rattle.model.specs.Sheet.{agentsOf, choresOf, easyWeight, difficultWeight, marksEasy, allDifficult, asMarked, asRead}
-use Rattle.model.specs.Fairness.{owns, holdsAny, total, costTo, costWithout, fair, ef1, dominates, dominated}
+use Rattle.model.specs.Fairness.{owns, total, costTo, ef1, dominates, dominated}
+use Rattle.model.specs.Slack.{costliest, withoutCostliest, leftAfter, restCost, fairUpTo, evenUpTo}
 use Rattle.model.specs.Prices.{best, ratioAtMost}
 use Rattle.model.specs.Refusals.{sheetRefusal}
 use Rattle.sheet.specs.Valid.{Valid}
@@ -23,6 +25,7 @@ use Rattle.sheet.proofs.Marks.{all-difficult-row}
 use Rattle.sheet.proofs.Refusal.{valid}
 use Rattle.welfare.specs.Reading.{RowReading}
 use Rattle.welfare.proofs.Costs.{cost-easy, cost-difficult}
+use Rattle.welfare.proofs.Slack.{even-one}
 
 -- agent i's costs as marked, each `marked` times, are its costs as read, each `read` times
 record Scaled (s : List ℕ) (i : ℕ) : Type 0 where
@@ -87,11 +90,27 @@ module _ {s : List ℕ} (v : Valid s) where
     less-same t u =
         let r = scaling in ltb-scaled _ _ _ _ (sums-scaled t) (sums-scaled u) (r .marked-positive) (r .read-positive)
 
-    fair-same : (x : ℕ → ℕ) (j : ℕ) → fair (asMarked s) x i j ≡ fair (asRead s) x i j
-    unfolding fair costWithout costTo total asMarked asRead
-    fair-same x j =
-        ap (λ b. not (holdsAny (choresOf s) x i) || b)
-        (any-cong (choresOf s) (λ c k. ap (λ b. owns x i c && b) (at-most-same (λ d. owns x i d && not (eqb d c)) (owns x j))))
+    -- the same chores are taken off
+    costliest-same : {t u : ℕ → Bool} → ((c : ℕ) → t c ≡ u c) → costliest (asMarked s) i t ≡ costliest (asRead s) i u
+    unfolding costliest asMarked asRead
+    costliest-same same =
+        let r = scaling in
+        chosen-cong (choresOf s) (λ c _. same c) (λ d c hd hc. ltb-scaled _ _ _ _ (r .scaled c hc) (r .scaled d hd) (r .marked-positive) (r .read-positive))
+
+    left-same : (k : ℕ) (x : ℕ → ℕ) (c : ℕ) → leftAfter k (asMarked s) x i c ≡ leftAfter k (asRead s) x i c
+    unfolding leftAfter withoutCostliest
+    left-same zero x c = refl
+    left-same (suc k) x c = ap₂ (λ b top. b && not (eqb c top)) (left-same k x c) (costliest-same (left-same k x))
+
+    rest-same : (k : ℕ) (x : ℕ → ℕ) (j : ℕ) → leb (restCost k (asMarked s) x i) (costTo (asMarked s) x i j) ≡ leb (restCost k (asRead s) x i) (costTo (asRead s) x i j)
+    unfolding restCost costTo total asMarked asRead
+    rest-same k x j =
+        ap (λ rest. leb rest (costTo (asMarked s) x i j)) (where-test (choresOf s) (cost (asMarked s) i) (λ c _. left-same k x c))
+        ∙ at-most-same (leftAfter k (asRead s) x i) (owns x j)
+
+    fair-same : (t : ℕ) (x : ℕ → ℕ) (j : ℕ) → fairUpTo t (asMarked s) x i j ≡ fairUpTo t (asRead s) x i j
+    unfolding fairUpTo
+    fair-same t x j = any-cong (t + 1) (λ k _. rest-same k x j)
 
     -- a ratio compares costs times prices
     ratio-same : (p : ℕ → ℕ) (c d : ℕ) → c < choresOf s → d < choresOf s → ratioAtMost (asMarked s) p i c d ≡ ratioAtMost (asRead s) p i c d
@@ -108,9 +127,12 @@ module _ {s : List ℕ} (v : Valid s) where
     unfolding best asMarked asRead
     best-same p c hc = all-cong (choresOf s) (λ d hd. ratio-same p c d hc hd)
 
+  even-same : (t : ℕ) (x : ℕ → ℕ) → evenUpTo t (asMarked s) x ≡ evenUpTo t (asRead s) x
+  unfolding evenUpTo asMarked asRead
+  even-same t x = all-cong (agentsOf s) (λ i _. all-cong (agentsOf s) (λ j _. fair-same i t x j))
+
   ef1-same : (x : ℕ → ℕ) → ef1 (asMarked s) x ≡ ef1 (asRead s) x
-  unfolding ef1 asMarked asRead
-  ef1-same x = all-cong (agentsOf s) (λ i _. all-cong (agentsOf s) (λ j _. fair-same i x j))
+  ef1-same x = sym (even-one (asMarked s) x) ∙ even-same 1 x ∙ even-one (asRead s) x
 
   dominates-same : (y x : ℕ → ℕ) → dominates (asMarked s) y x ≡ dominates (asRead s) y x
   unfolding dominates costTo total asMarked asRead
@@ -132,6 +154,7 @@ row-reading s passed =
       scales = λ i c l k e. omega (arith, difficult-scaled v i c k e);
       others = read-as-marked v;
       even = ef1-same v;
+      slack = even-same v;
       dominating = dominates-same v;
       wasteful = dominated-same v;
     }
