@@ -3,13 +3,13 @@
 use crate::book::{chores_of, lookup};
 use crate::checks::{check_list, check_prices, ListVerdict, PriceVerdict};
 use crate::compose;
-use crate::limits::{MAX_AGENTS, MAX_CHORES, MAX_WEIGHT, MIN_SCRATCH};
+use crate::limits::{MAX_AGENTS, MAX_CHORES, MAX_SLACK, MAX_WEIGHT, MIN_SCRATCH};
 use crate::share_out::{allocate, ShareOut};
 use std::fmt::Display;
 
 /// One line per case: its name, then the answer.
 pub fn print() -> String {
-    let lines = [limits(), refusals()].concat();
+    let lines = [limits(), slacks(), refusals()].concat();
     lines.iter().map(|line| format!("{line}\n")).collect()
 }
 
@@ -43,6 +43,17 @@ fn limits() -> Vec<String> {
     lines
 }
 
+/// The slack likewise. It is refused after a lent list that is too short.
+fn slacks() -> Vec<String> {
+    let (at, past, m) = (MAX_SLACK, MAX_SLACK + 1, OWNERS.len());
+    let verdict = |slack, lent| listed(&sheet_c(), &OWNERS, slack, lent);
+    vec![
+        format!("slack {at} {}", verdict(at, m)),
+        format!("slack {past} {}", verdict(past, m)),
+        format!("slack {past} lent {} {}", m - 1, verdict(past, m - 1)),
+    ]
+}
+
 /// The numbers that no limit above gives, each by a fault at the end of C, of
 /// its list or of its prices, or by a lookup in a book of C and of no bytes.
 fn refusals() -> Vec<String> {
@@ -60,8 +71,11 @@ fn refusals() -> Vec<String> {
     let mut lines = vec![
         format!("bit {after} {}", shared(&marked, MIN_SCRATCH)),
         format!("length {last} {}", shared(&sheet[..last], MIN_SCRATCH)),
-        format!("owners {most} {}", listed(&sheet, &OWNERS[..most])),
-        format!("owner 3 {}", listed(&sheet, &owners)),
+        format!(
+            "owners {most} {}",
+            listed(&sheet, &OWNERS[..most], 1, MAX_CHORES)
+        ),
+        format!("owner 3 {}", listed(&sheet, &owners, 1, MAX_CHORES)),
         format!("price 0 {}", priced(&sheet, &prices)),
     ];
     lines.extend((0..=3).map(|number| format!("sheet {number} {}", found(&book, number))));
@@ -89,9 +103,10 @@ fn spaced<T: Display>(numbers: &[T]) -> String {
     numbers.iter().map(|number| format!(" {number}")).collect()
 }
 
-fn listed(sheet: &[u8], owners: &[u8]) -> String {
-    match check_list(sheet, owners, &mut [0; MAX_CHORES]) {
+fn listed(sheet: &[u8], owners: &[u8], slack: u8, lent: usize) -> String {
+    match check_list(sheet, owners, slack, &mut vec![0; lent]) {
         ListVerdict::Refused(number) => refused(number),
+        ListVerdict::Holds => "holds".to_string(),
         verdict => format!("{verdict:?}"),
     }
 }

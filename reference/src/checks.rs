@@ -2,7 +2,7 @@
 
 use crate::costs::Costs;
 use crate::fairness;
-use crate::limits::MAX_PRICE;
+use crate::limits::{MAX_PRICE, MAX_SLACK};
 use crate::pricing::{best_chores, holdings};
 use crate::refusal;
 use crate::share_out::owner_byte;
@@ -16,7 +16,7 @@ pub enum ListVerdict {
     Unfair(usize, usize),
     /// A dominating allocation stands in the first m lent entries.
     Wasteful,
-    /// EF1, but there are too many allocations to try them all for waste.
+    /// Not unfair, but there are too many allocations to try them all for waste.
     Undecided,
 }
 
@@ -29,8 +29,9 @@ pub enum PriceVerdict {
     Accepted,
 }
 
-/// Writes `dominating` only with `Wasteful`.
-pub fn check_list(sheet: &[u8], owners: &[u8], dominating: &mut [u8]) -> ListVerdict {
+/// Up to `slack` chores of whoever envies may be taken off. Writes `dominating`
+/// only with `Wasteful`.
+pub fn check_list(sheet: &[u8], owners: &[u8], slack: u8, dominating: &mut [u8]) -> ListVerdict {
     let (costs, owner) = match judged(sheet, owners) {
         Ok(judged) => judged,
         Err(number) => return ListVerdict::Refused(number),
@@ -38,7 +39,10 @@ pub fn check_list(sheet: &[u8], owners: &[u8], dominating: &mut [u8]) -> ListVer
     if dominating.len() < costs.chores {
         return ListVerdict::Refused(refusal::LENT);
     }
-    if let Some((i, j)) = fairness::first_unfair_pair(&costs, &owner) {
+    if slack > MAX_SLACK {
+        return ListVerdict::Refused(refusal::SLACK);
+    }
+    if let Some((i, j)) = fairness::first_unfair_pair(&costs, &owner, slack) {
         return ListVerdict::Unfair(i + 1, j + 1);
     }
     if !fairness::can_try_all(&costs) {

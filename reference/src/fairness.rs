@@ -1,13 +1,13 @@
-//! EF1 and Pareto domination, by their definitions.
+//! Envy up to a slack and Pareto domination, by their definitions.
 
 use crate::costs::Costs;
 use crate::limits::MAX_ALLOCATIONS_TRIED;
 
-/// The first pair, by i and then by j, where EF1 fails.
-pub fn first_unfair_pair(costs: &Costs, owner: &[usize]) -> Option<(usize, usize)> {
+/// The first pair, by i and then by j, where i envies j by more than the slack.
+pub fn first_unfair_pair(costs: &Costs, owner: &[usize], slack: u8) -> Option<(usize, usize)> {
     for i in 0..costs.agents {
         for j in 0..costs.agents {
-            if !is_ef1_towards(costs, owner, i, j) {
+            if envies(costs, owner, slack, i, j) {
                 return Some((i, j));
             }
         }
@@ -15,13 +15,26 @@ pub fn first_unfair_pair(costs: &Costs, owner: &[usize]) -> Option<(usize, usize
     None
 }
 
-/// i holds nothing, or can do without some chore and not envy j then.
-fn is_ef1_towards(costs: &Costs, owner: &[usize], i: usize, j: usize) -> bool {
-    let own = bundle_cost(costs, owner, i, i);
+/// i's chores cost i more than j's would, and still do after each of up to
+/// `slack` chores that are taken off one by one. With none left i envies nobody.
+fn envies(costs: &Costs, owner: &[usize], slack: u8, i: usize, j: usize) -> bool {
     let other = bundle_cost(costs, owner, i, j);
-    let holds_nothing = !owner.contains(&i);
-    let mut held = (0..costs.chores).filter(|&chore| owner[chore] == i);
-    holds_nothing || held.any(|chore| own - costs.of(i, chore) <= other)
+    let held = (0..costs.chores).filter(|&chore| owner[chore] == i);
+    let mut left: Vec<u64> = held.map(|chore| costs.of(i, chore)).collect();
+    for _ in 0..slack {
+        if left.iter().sum::<u64>() <= other {
+            return false;
+        }
+        take_costliest_off(&mut left);
+    }
+    left.iter().sum::<u64>() > other
+}
+
+fn take_costliest_off(left: &mut Vec<u64>) {
+    let costliest = (0..left.len()).max_by_key(|&place| left[place]);
+    if let Some(place) = costliest {
+        left.remove(place);
+    }
 }
 
 /// What the chores of `holder` cost `judge`.

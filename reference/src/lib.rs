@@ -1,7 +1,8 @@
 //! The second program: the share-out of easy and difficult chores, and the
 //! checks of allocations and prices, written plainly from the scope document,
 //! with the opening, a record of the moves, the cost of a mark, the joining of
-//! two sheets, packed marks and the scratch by the requests that came later.
+//! two sheets, packed marks, the scratch and the slack by the requests that came
+//! later.
 //!
 //! Where those documents say person, reel, list, even, best reel, price-one,
 //! ring and cut, the code says agent, chore, allocation (its bytes: owners),

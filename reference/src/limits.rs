@@ -8,6 +8,8 @@ pub const MAX_CHORES: usize = 4_000;
 pub const MAX_WEIGHT: u32 = 1_000;
 /// A price handed to the price check is 1 to this.
 pub const MAX_PRICE: u32 = 1_000_000;
+/// The slack of the list check: 0 to this.
+pub const MAX_SLACK: u8 = 8;
 /// Scratch bytes that the share-out must be lent: for each agent its distance
 /// and a place in line.
 pub const MIN_SCRATCH: usize = 2 * MAX_AGENTS;

@@ -2,7 +2,7 @@
 //! is decided on a sheet of any size.
 
 use crate::checks::{accepted, ListVerdict, PriceVerdict};
-use crate::limits::{MAX_AGENTS, MAX_PRICE};
+use crate::limits::{MAX_AGENTS, MAX_PRICE, MAX_SLACK};
 use crate::price_bytes::{self, PRICE_BYTES};
 use crate::refusal;
 use crate::sheet::Sheet;
@@ -10,7 +10,7 @@ use crate::sums::Sums;
 use crate::waste;
 
 /// Never undecided. Writes `dominating` only with `Wasteful`.
-pub fn check_list(sheet: &[u8], owners: &[u8], dominating: &mut [u8]) -> ListVerdict {
+pub fn check_list(sheet: &[u8], owners: &[u8], slack: u8, dominating: &mut [u8]) -> ListVerdict {
     let sheet = match accepted(sheet, owners) {
         Ok(sheet) => sheet,
         Err(number) => return ListVerdict::Refused(number),
@@ -18,8 +18,11 @@ pub fn check_list(sheet: &[u8], owners: &[u8], dominating: &mut [u8]) -> ListVer
     if dominating.len() < sheet.chores {
         return ListVerdict::Refused(refusal::LENT);
     }
+    if slack > MAX_SLACK {
+        return ListVerdict::Refused(refusal::SLACK);
+    }
     let owner = counted_from_0(owners);
-    if let Some((i, j)) = first_unfair_pair(&sheet, &owner) {
+    if let Some((i, j)) = first_unfair_pair(&sheet, &owner, slack) {
         return ListVerdict::Unfair(i + 1, j + 1);
     }
     match waste::dominating(&sheet, &owner) {
@@ -58,17 +61,32 @@ fn counted_from_0(owners: &[u8]) -> Vec<u8> {
     owners.iter().map(|number| number - 1).collect()
 }
 
-/// The first pair, by i and then by j, where EF1 fails. Whoever holds nothing
-/// pays 0 up to one chore, so envies nobody.
-fn first_unfair_pair(sheet: &Sheet, owner: &[u8]) -> Option<(usize, usize)> {
-    let own_cost = |(chore, &agent): (usize, &u8)| sheet.cost(usize::from(agent), chore);
-    let own: Vec<u32> = owner.iter().enumerate().map(own_cost).collect();
-    let held = Sums::of(owner, &own);
+/// The first pair, by i and then by j, where j's chores would cost i less than
+/// the rest of i's own.
+fn first_unfair_pair(sheet: &Sheet, owner: &[u8], slack: u8) -> Option<(usize, usize)> {
+    let rest = rests(sheet, owner, slack.into());
     (0..sheet.agents).find_map(|i| {
         let cost = bundle_costs(sheet, owner, i);
-        let j = first_below(held.up_to_one[i], &cost[..sheet.agents])?;
+        let j = first_below(rest[i], &cost[..sheet.agents])?;
         Some((i, j))
     })
+}
+
+/// What each agent's chores cost it without the `slack` costliest. Fewer of them
+/// taken off leave no less.
+fn rests(sheet: &Sheet, owner: &[u8], slack: usize) -> [u32; MAX_AGENTS] {
+    let mut rest = [0; MAX_AGENTS];
+    // The costliest so far, greatest first, and 0 where there are fewer.
+    let mut off = [[0; MAX_SLACK as usize]; MAX_AGENTS];
+    for (chore, &agent) in owner.iter().enumerate() {
+        let agent = usize::from(agent);
+        let mut cost = sheet.cost(agent, chore);
+        for place in &mut off[agent][..slack] {
+            (*place, cost) = (cost.max(*place), cost.min(*place));
+        }
+        rest[agent] += cost;
+    }
+    rest
 }
 
 /// What each agent's chores cost `judge`.

@@ -26,3 +26,5 @@ pub const PRICE: u8 = 10;
 pub const RECORD: u8 = 11;
 /// Strands whose agents or weights differ.
 pub const STRANDS: u8 = 12;
+/// A slack above the limit.
+pub const SLACK: u8 = 13;

@@ -1,4 +1,4 @@
-//! Verdicts of the list check, and domination.
+//! Verdicts of the list check at slack 1, and domination.
 
 mod common;
 
@@ -11,11 +11,11 @@ fn some_chore_is_taken_off_not_the_cheapest() {
     let sheet = compose::sheet(1, 3, &["dee", "dee"]);
     let mut shown = [9; 3];
     assert_eq!(
-        check_list(&sheet, &[1, 1, 2], &mut shown),
+        check_list(&sheet, &[1, 1, 2], 1, &mut shown),
         ListVerdict::Holds
     );
     assert_eq!(
-        check_list(&sheet, &[1, 1, 1], &mut shown),
+        check_list(&sheet, &[1, 1, 1], 1, &mut shown),
         ListVerdict::Unfair(1, 2)
     );
     assert_eq!(shown, [9; 3]);
@@ -24,14 +24,14 @@ fn some_chore_is_taken_off_not_the_cheapest() {
 #[test]
 fn nobody_envies_without_chores() {
     let sheet = compose::sheet(1, 2, &["e", "e", "e"]);
-    assert_eq!(check_list(&sheet, &[3], &mut [0]), ListVerdict::Holds);
+    assert_eq!(check_list(&sheet, &[3], 1, &mut [0]), ListVerdict::Holds);
 }
 
 #[test]
 fn the_first_unfair_pair_is_named() {
     let sheet = compose::sheet(1, 2, &["eeee", "eeee", "eeee", "eeee"]);
     let mut shown = [0; 4];
-    let mut verdict = |owners: &[u8]| check_list(&sheet, owners, &mut shown);
+    let mut verdict = |owners: &[u8]| check_list(&sheet, owners, 1, &mut shown);
     assert_eq!(verdict(&[3, 3, 3, 3]), ListVerdict::Unfair(3, 1));
     assert_eq!(verdict(&[2, 2, 1, 1]), ListVerdict::Unfair(1, 3));
     assert_eq!(verdict(&[4, 4, 1, 2]), ListVerdict::Unfair(4, 3));
@@ -44,7 +44,7 @@ fn unfair_comes_before_wasteful() {
     let sheet = compose::sheet(1, 2, &["dd", "ee"]);
     let mut shown = [9; 2];
     assert_eq!(
-        check_list(&sheet, &[1, 1], &mut shown),
+        check_list(&sheet, &[1, 1], 1, &mut shown),
         ListVerdict::Unfair(1, 2)
     );
     assert_eq!(shown, [9; 2]);
@@ -57,7 +57,7 @@ fn waste_that_no_swap_of_two_mends() {
     let owners = [1, 2, 3];
     let mut shown = [9; 5];
     assert_eq!(
-        check_list(&sheet, &owners, &mut shown),
+        check_list(&sheet, &owners, 1, &mut shown),
         ListVerdict::Wasteful
     );
     assert_eq!(shown, [3, 1, 2, 9, 9]);
@@ -91,11 +91,11 @@ fn large_sheets_are_not_guessed_at() {
     let mut shown = [9; 4_000];
     assert!(!is_small_enough(&large));
     assert_eq!(
-        check_list(&large, &even, &mut shown),
+        check_list(&large, &even, 1, &mut shown),
         ListVerdict::Undecided
     );
     assert_eq!(
-        check_list(&large, &[5; 4_000], &mut shown),
+        check_list(&large, &[5; 4_000], 1, &mut shown),
         ListVerdict::Unfair(5, 1)
     );
     assert_eq!(shown, [9; 4_000]);
@@ -105,7 +105,7 @@ fn large_sheets_are_not_guessed_at() {
     // A single agent has a single allocation.
     let single = compose::sheet(1, 2, &["d".repeat(4_000)]);
     assert_eq!(
-        check_list(&single, &[1; 4_000], &mut shown),
+        check_list(&single, &[1; 4_000], 1, &mut shown),
         ListVerdict::Holds
     );
     assert!(!is_small_enough(&c()[1..]));
@@ -120,7 +120,7 @@ fn every_verdict_on_random_lists() {
         let sheet = random.sheet(agents, chores);
         let owners = random.owners(agents, chores);
         let mut shown = vec![99; chores + 2];
-        match check_list(&sheet, &owners, &mut shown) {
+        match check_list(&sheet, &owners, 1, &mut shown) {
             ListVerdict::Holds => holds += 1,
             ListVerdict::Unfair(i, j) => {
                 unfair += 1;

@@ -3,16 +3,16 @@
 mod common;
 
 use common::{all_lists, as_bytes, c, d, e, every_rows, owner_bytes, share, tiny_sizes, Random};
-use reference::limits::{MAX_AGENTS, MAX_CHORES, MAX_PRICE};
+use reference::limits::{MAX_AGENTS, MAX_CHORES, MAX_PRICE, MAX_SLACK};
 use reference::{check_list, compose, dominates, plain_checks, price_bytes};
 use reference::{ListVerdict, PriceVerdict};
 
-type ListCheck = fn(&[u8], &[u8], &mut [u8]) -> ListVerdict;
+type ListCheck = fn(&[u8], &[u8], u8, &mut [u8]) -> ListVerdict;
 
 /// The verdict, with every lent entry looked at.
-fn judged(check: ListCheck, sheet: &[u8], owners: &[u8], lent: usize) -> ListVerdict {
+fn judged(check: ListCheck, sheet: &[u8], owners: &[u8], slack: u8, lent: usize) -> ListVerdict {
     let mut shown = vec![99; lent];
-    let verdict = check(sheet, owners, &mut shown);
+    let verdict = check(sheet, owners, slack, &mut shown);
     if verdict == ListVerdict::Wasteful {
         let written = &mut shown[..owners.len()];
         assert!(dominates(sheet, written, owners), "{sheet:?} {owners:?}");
@@ -26,8 +26,8 @@ fn judged(check: ListCheck, sheet: &[u8], owners: &[u8], lent: usize) -> ListVer
 type Seen = [usize; 4];
 
 /// Only waste may be left open by the check near the text.
-fn compare_list(sheet: &[u8], owners: &[u8], lent: usize, seen: &mut Seen) {
-    let fast = judged(plain_checks::check_list, sheet, owners, lent);
+fn compare_list(sheet: &[u8], owners: &[u8], slack: u8, lent: usize, seen: &mut Seen) {
+    let fast = judged(plain_checks::check_list, sheet, owners, slack, lent);
     let kind = match fast {
         ListVerdict::Holds => 0,
         ListVerdict::Unfair(..) => 1,
@@ -36,9 +36,9 @@ fn compare_list(sheet: &[u8], owners: &[u8], lent: usize, seen: &mut Seen) {
         ListVerdict::Undecided => panic!("{sheet:?} {owners:?}"),
     };
     seen[kind] += 1;
-    match judged(check_list, sheet, owners, lent) {
+    match judged(check_list, sheet, owners, slack, lent) {
         ListVerdict::Undecided => assert!(kind == 0 || kind == 2, "{sheet:?} {owners:?}"),
-        slow => assert_eq!(fast, slow, "{sheet:?} {owners:?}"),
+        slow => assert_eq!(fast, slow, "{slack} {sheet:?} {owners:?}"),
     }
 }
 
@@ -58,7 +58,8 @@ fn compare_prices(sheet: &[u8], owners: &[u8], prices: &[u8], seen: &mut Seen) {
 
 #[test]
 fn lists_and_prices_to_try() {
-    let verdict = |sheet: &[u8], owners: &[u8]| judged(plain_checks::check_list, sheet, owners, 9);
+    let verdict =
+        |sheet: &[u8], owners: &[u8]| judged(plain_checks::check_list, sheet, owners, 1, 9);
     assert_eq!(verdict(&d(), &[1, 1, 1]), ListVerdict::Unfair(1, 2));
     assert_eq!(verdict(&d(), &[1, 1, 2]), ListVerdict::Holds);
     assert_eq!(verdict(&e(), &[2, 1]), ListVerdict::Wasteful);
@@ -74,10 +75,10 @@ fn every_list_of_every_tiny_sheet() {
     for (agents, chores) in tiny_sizes() {
         let lists = all_lists(agents, chores);
         for rows in every_rows(agents, chores) {
-            for (easy, difficult) in [(1, 3), (2, 3)] {
+            for (easy, difficult, slack) in [(1, 3, 0), (1, 3, 1), (1, 3, 2), (2, 3, 1)] {
                 let sheet = compose::sheet(easy, difficult, &rows);
                 for list in &lists {
-                    compare_list(&sheet, &owner_bytes(list), chores, &mut seen);
+                    compare_list(&sheet, &owner_bytes(list), slack, chores, &mut seen);
                 }
             }
         }
@@ -89,24 +90,38 @@ fn every_list_of_every_tiny_sheet() {
 #[test]
 fn random_lists_of_small_sheets() {
     let mut random = Random::new(61);
-    let mut seen = [0; 4];
+    let mut seen = [[0; 4]; 9];
     for _ in 0..10_000 {
         let (agents, chores) = (1 + random.below(4), random.below(7));
         let sheet = random.sheet(agents, chores);
-        let owners = random.owners(agents, chores);
+        let slack = random.below(9);
+        let mut owners = match random.below(2) {
+            0 => random.owners(agents, chores),
+            _ => random.dealt(agents, chores),
+        };
+        if random.below(3) == 0 {
+            pile(&mut random, &mut owners, 2 * slack);
+        }
         let lent = chores + random.below(3);
-        compare_list(&sheet, &owners, lent, &mut seen);
+        compare_list(&sheet, &owners, slack as u8, lent, &mut seen[slack]);
     }
-    assert!(seen[..3].iter().all(|&count| count > 500), "{seen:?}");
-    assert_eq!(seen[3], 0);
+    for (slack, seen) in seen.iter().enumerate() {
+        assert!(seen[0] > 100 && seen[2] > 3, "{slack} {seen:?}");
+        // There are up to six chores.
+        assert_eq!(seen[1] > 3, slack < 6, "{slack} {seen:?}");
+        assert_eq!(seen[3], 0);
+    }
 }
 
-/// The share-out's list and prices, with up to three owners changed.
+/// The share-out's list and prices, with up to three owners changed or exchanged.
 fn near_fair(random: &mut Random, sheet: &[u8]) -> (Vec<u8>, Vec<u32>) {
     let (mut owners, prices, ..) = share(sheet).unwrap();
     let (agents, chores) = (usize::from(sheet[0]), owners.len());
     for _ in 0..random.below(4).min(chores) {
-        owners[random.below(chores)] = 1 + random.below(agents) as u8;
+        match random.below(2) {
+            0 => owners[random.below(chores)] = 1 + random.below(agents) as u8,
+            _ => owners.swap(random.below(chores), random.below(chores)),
+        }
     }
     (owners, prices)
 }
@@ -114,19 +129,38 @@ fn near_fair(random: &mut Random, sheet: &[u8]) -> (Vec<u8>, Vec<u32>) {
 #[test]
 fn lists_of_sheets_of_any_size() {
     let mut random = Random::new(62);
-    let mut seen = [0; 4];
+    let mut seen = [[0; 4]; 9];
     for _ in 0..1_500 {
         let (agents, chores) = match random.below(30) {
             0 => (2 + random.below(5), 4_000 - random.below(9)),
             _ => (5 + random.below(28), 10 + random.below(191)),
         };
         let sheet = random.sheet(agents, chores);
-        let (owners, _) = near_fair(&mut random, &sheet);
+        let (mut owners, _) = near_fair(&mut random, &sheet);
+        let slack = random.below(9);
+        if random.below(2) == 0 {
+            pile(&mut random, &mut owners, 2 + 2 * slack);
+        }
         let lent = chores + random.below(3);
-        compare_list(&sheet, &owners, lent, &mut seen);
+        compare_list(&sheet, &owners, slack as u8, lent, &mut seen[slack]);
     }
-    assert!(seen[..3].iter().all(|&count| count > 150), "{seen:?}");
-    assert_eq!(seen[3], 0);
+    for (slack, seen) in seen.iter().enumerate() {
+        // Few lists are envy-free.
+        let least = if slack == 0 { 1 } else { 10 };
+        assert!(seen[..3].iter().all(|&count| count >= least), "{seen:?}");
+        assert_eq!(seen[3], 0);
+    }
+}
+
+/// Hands up to so many chores to one agent.
+fn pile(random: &mut Random, owners: &mut [u8], most: usize) {
+    if owners.is_empty() {
+        return;
+    }
+    let agent = owners[random.below(owners.len())];
+    for _ in 0..random.below(most + 1) {
+        owners[random.below(owners.len())] = agent;
+    }
 }
 
 /// Now and then a byte changed, left out or put in.
@@ -157,7 +191,8 @@ fn damaged_sheets_lists_and_prices() {
         let owners = damaged(&mut random, &owners);
         let prices = damaged(&mut random, &as_bytes(&prices));
         let lent = random.below(chores + 4);
-        compare_list(&sheet, &owners, lent, &mut seen[0]);
+        let slack = [0, 1, 2, 7, MAX_SLACK, MAX_SLACK + 1, 255][random.below(7)];
+        compare_list(&sheet, &owners, slack, lent, &mut seen[0]);
         compare_prices(&sheet, &owners, &prices, &mut seen[1]);
     }
     for seen in seen {

@@ -3,6 +3,7 @@
 mod common;
 
 use common::{c, d, e, f, Random};
+use reference::limits::MAX_SLACK;
 use reference::{check_list, check_prices, compose, ListVerdict, PriceVerdict};
 
 #[test]
@@ -100,8 +101,10 @@ fn what_is_accepted_also_holds() {
             PriceVerdict::PriceEnvy(..) => envy += 1,
             PriceVerdict::Accepted => {
                 accepted += 1;
-                let verdict = check_list(&sheet, &owners, &mut vec![0; chores]);
-                assert_eq!(verdict, ListVerdict::Holds);
+                for slack in 1..=MAX_SLACK {
+                    let verdict = check_list(&sheet, &owners, slack, &mut vec![0; chores]);
+                    assert_eq!(verdict, ListVerdict::Holds);
+                }
             }
             other => panic!("{other:?}"),
         }

@@ -1,20 +1,31 @@
-//! What every share-out must have: EF1, no waste, and accepted prices.
+//! What every share-out must have: EF1, and so fairness at every slack but 0, no
+//! waste, and accepted prices.
 
 mod common;
 
 use common::{every_rows, share, Random};
 use reference::costs::Costs;
 use reference::fairness::first_unfair_pair;
+use reference::limits::MAX_SLACK;
 use reference::sheet::Sheet;
-use reference::{check_list, check_prices, compose, is_small_enough};
+use reference::{check_list, check_prices, compose, is_small_enough, plain_checks};
 use reference::{ListVerdict, PriceVerdict};
+
+/// At every slack but 0.
+fn assert_holds(sheet: &[u8], owners: &[u8]) {
+    for slack in 1..=MAX_SLACK {
+        let verdict = plain_checks::check_list(sheet, owners, slack, &mut vec![0; owners.len()]);
+        assert_eq!(verdict, ListVerdict::Holds, "{slack} {sheet:?}");
+    }
+}
 
 /// Shares out and checks by prices and by search; hands back moves and cuts.
 fn judge_small(sheet: &[u8]) -> (u64, u8) {
     assert!(is_small_enough(sheet));
     let (owners, prices, moves, cuts) = share(sheet).unwrap();
-    let verdict = check_list(sheet, &owners, &mut vec![0; owners.len()]);
+    let verdict = check_list(sheet, &owners, 1, &mut vec![0; owners.len()]);
     assert_eq!(verdict, ListVerdict::Holds, "{sheet:?}");
+    assert_holds(sheet, &owners);
     let verdict = check_prices(sheet, &owners, &prices);
     assert_eq!(verdict, PriceVerdict::Accepted, "{sheet:?}");
     assert!(cuts < sheet[0], "{sheet:?}");
@@ -77,7 +88,8 @@ fn random_large_sheets() {
         assert_eq!(verdict, PriceVerdict::Accepted, "{sheet:?}");
         let costs = Costs::as_marked(&Sheet::parse(&sheet).unwrap());
         let owner: Vec<usize> = owners.iter().map(|&i| usize::from(i) - 1).collect();
-        assert_eq!(first_unfair_pair(&costs, &owner), None, "{sheet:?}");
+        assert_eq!(first_unfair_pair(&costs, &owner, 1), None, "{sheet:?}");
+        assert_holds(&sheet, &owners);
         assert!(usize::from(cuts) < agents, "{sheet:?}");
         most_cuts = most_cuts.max(cuts);
     }

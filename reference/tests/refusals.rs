@@ -3,7 +3,7 @@
 mod common;
 
 use common::{as_bytes, b, c, faulty_sheet, first_fault, share, SHEET_FAULTS};
-use reference::limits::MIN_SCRATCH;
+use reference::limits::{MAX_SLACK, MIN_SCRATCH};
 use reference::{allocate, check_list, check_prices, compose, plain_checks, price_bytes, record};
 use reference::{ListVerdict, PriceVerdict, ShareOut};
 
@@ -48,7 +48,7 @@ fn a_recorded_share_out_finds_the_first_of_any_faults() {
 
 #[test]
 fn check_list_finds_the_first_of_any_faults() {
-    let numbers = [&SHEET_FAULTS[..], &[6, 7, 8]].concat();
+    let numbers = [&SHEET_FAULTS[..], &[6, 7, 8, 13]].concat();
     for faults in 1..1_usize << numbers.len() {
         let has = |fault: usize| faults >> fault & 1 == 1;
         let sheet = faulty_sheet(2, 4, faults);
@@ -56,9 +56,10 @@ fn check_list_finds_the_first_of_any_faults() {
         let mut owners = vec![1; if has(6) { 5 } else { 4 }];
         owners[3] = if has(7) { 3 } else { 2 };
         let mut shown = vec![77; if has(8) { 3 } else { 6 }];
+        let slack = if has(9) { MAX_SLACK + 1 } else { MAX_SLACK };
         let expected = first_fault(faults, &numbers).unwrap();
         for check in [check_list, plain_checks::check_list] {
-            let answer = check(&sheet, &owners, &mut shown);
+            let answer = check(&sheet, &owners, slack, &mut shown);
             assert_eq!(answer, ListVerdict::Refused(expected), "faults {faults:b}");
             assert!(shown.iter().all(|&entry| entry == 77));
         }
@@ -145,7 +146,7 @@ fn no_chores_need_no_entries() {
     assert_eq!(answer, ShareOut::Shared { moves: 0, cuts: 0 });
     assert_eq!(scratch, [0; MIN_SCRATCH]);
     for check in [check_list, plain_checks::check_list] {
-        assert_eq!(check(&sheet, &[], &mut []), ListVerdict::Holds);
+        assert_eq!(check(&sheet, &[], 0, &mut []), ListVerdict::Holds);
     }
     for check in [price_bytes::check, plain_checks::check_prices] {
         assert_eq!(check(&sheet, &[], &[]), PriceVerdict::Accepted);

@@ -39,12 +39,18 @@ fn a_sheet_that_moves_in_step_2a() {
 fn lists_on_d_and_e() {
     let mut shown = [9; 3];
     assert_eq!(
-        check_list(&d(), &[1, 1, 1], &mut shown),
+        check_list(&d(), &[1, 1, 1], 1, &mut shown),
         ListVerdict::Unfair(1, 2)
     );
-    assert_eq!(check_list(&d(), &[1, 1, 2], &mut shown), ListVerdict::Holds);
+    assert_eq!(
+        check_list(&d(), &[1, 1, 2], 1, &mut shown),
+        ListVerdict::Holds
+    );
     assert_eq!(shown, [9; 3]);
-    assert_eq!(check_list(&e(), &[2, 1], &mut shown), ListVerdict::Wasteful);
+    assert_eq!(
+        check_list(&e(), &[2, 1], 1, &mut shown),
+        ListVerdict::Wasteful
+    );
     assert_eq!(shown, [1, 2, 9]);
 }
 
@@ -103,6 +109,9 @@ fn printed_cases() {
         "b 1001 refused 3",
         &format!("scratch 64 {c}"),
         "scratch 63 refused 8",
+        "slack 8 holds",
+        "slack 9 refused 13",
+        "slack 9 lent 4 refused 8",
         "bit 6 refused 4",
         "length 8 refused 5",
         "owners 4 refused 6",

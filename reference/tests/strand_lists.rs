@@ -23,7 +23,7 @@ fn as_marked(sheet: &[u8]) -> Costs {
 }
 
 fn is_even(costs: &Costs, owner: &[usize]) -> bool {
-    first_unfair_pair(costs, owner).is_none()
+    first_unfair_pair(costs, owner, 1).is_none()
 }
 
 /// Two strands, and their joined sheet.
@@ -176,7 +176,7 @@ fn a_part_of_a_share_out_may_be_uneven() {
     assert!(is_even(&desk.joined, &owner));
     let [before, after] = desk.parts(&owner);
     assert!(is_even(before.0, before.1));
-    assert_eq!(first_unfair_pair(after.0, after.1), Some((0, 1)));
+    assert_eq!(first_unfair_pair(after.0, after.1, 1), Some((0, 1)));
 }
 
 #[test]

@@ -225,6 +225,18 @@ impl Random {
     pub fn owners(&mut self, agents: usize, chores: usize) -> Vec<u8> {
         (0..chores).map(|_| 1 + self.below(agents) as u8).collect()
     }
+
+    /// As many chores for each as there can be, in any order: of what nobody
+    /// envies at all, some is wasteful.
+    pub fn dealt(&mut self, agents: usize, chores: usize) -> Vec<u8> {
+        let mut owners: Vec<u8> = (0..chores)
+            .map(|chore| 1 + (chore % agents) as u8)
+            .collect();
+        for end in (1..chores).rev() {
+            owners.swap(end, self.below(end + 1));
+        }
+        owners
+    }
 }
 
 fn mark(easy: bool) -> char {
