@@ -419,20 +419,34 @@ static uint32_t verdict_pair(uint32_t kind, size_t i, size_t j)
     return verdict(kind, (i + 1) | (j + 1) << 8);
 }
 
-/* The first agent that i envies by more than one chore; the number of agents
- * if there is none. */
-static size_t first_envied(const Market *market, size_t i)
+static void count_chores(const Market *market, uint32_t *held)
 {
-    uint32_t cost_of[SHARES_MAX_AGENTS] = {0}; /* each agent's chores, to i */
-    uint32_t costliest = 0;
-    for (size_t c = 0; c < market->chores; c++) {
-        uint32_t here = cost(market, i, c);
-        cost_of[market->owner[c]] += here;
-        if (market->owner[c] == i && here > costliest)
-            costliest = here;
-    }
+    memset(held, 0, SHARES_MAX_AGENTS * sizeof *held);
+    for (size_t c = 0; c < market->chores; c++)
+        held[market->owner[c]]++;
+}
+
+static uint32_t at_most(uint32_t number, uint32_t limit)
+{
+    return number < limit ? number : limit;
+}
+
+/* What so many chores cost, so many of them difficult. */
+static uint32_t cost_of(const Market *market, uint32_t chores, uint32_t difficult)
+{
+    return (chores - difficult) * market->easy + difficult * market->difficult;
+}
+
+/* The first agent that i envies by more than `slack` chores; the number of
+ * agents if there is none. Of i's own chores the difficult ones go first. */
+static size_t first_envied(const Market *market, const uint32_t *held, size_t i, uint32_t slack)
+{
+    uint32_t difficult[SHARES_MAX_AGENTS] = {0}; /* of each agent's chores, to i */
+    for (size_t c = 0; c < market->chores; c++)
+        difficult[market->owner[c]] += !finds_easy(market, i, c);
+    uint32_t rest = cost_of(market, held[i] - at_most(slack, held[i]), difficult[i] - at_most(slack, difficult[i]));
     size_t j = 0;
-    while (j < market->agents && cost_of[i] - costliest <= cost_of[j])
+    while (j < market->agents && rest <= cost_of(market, held[j], difficult[j]))
         j++;
     return j;
 }
@@ -503,7 +517,7 @@ static bool find_dominating(const Market *market, uint8_t *list)
 }
 
 uint32_t plain_check_list(const uint8_t *sheet, size_t sheet_len,
-                          const uint8_t *owners, size_t owners_len,
+                          const uint8_t *owners, size_t owners_len, uint8_t slack,
                           uint8_t *dominating, size_t dominating_len)
 {
     Market market;
@@ -512,11 +526,15 @@ uint32_t plain_check_list(const uint8_t *sheet, size_t sheet_len,
         refusal = read_owners(&market, owners, owners_len);
     if (refusal == SHARES_OK && dominating_len < market.chores)
         refusal = SHARES_SHORT_LIST;
+    if (refusal == SHARES_OK && slack > SHARES_MAX_SLACK)
+        refusal = SHARES_BAD_SLACK;
     if (refusal != SHARES_OK)
         return refusal;
 
+    uint32_t held[SHARES_MAX_AGENTS];
+    count_chores(&market, held);
     for (size_t i = 0; i < market.agents; i++) {
-        size_t j = first_envied(&market, i);
+        size_t j = first_envied(&market, held, i, slack);
         if (j < market.agents)
             return verdict_pair(SHARES_UNFAIR, i, j);
     }

@@ -15,7 +15,7 @@ uint8_t plain_allocate(const uint8_t *sheet, size_t sheet_len,
                        uint64_t *moves, uint8_t *cuts);
 
 uint32_t plain_check_list(const uint8_t *sheet, size_t sheet_len,
-                          const uint8_t *owners, size_t owners_len,
+                          const uint8_t *owners, size_t owners_len, uint8_t slack,
                           uint8_t *dominating, size_t dominating_len);
 
 uint32_t plain_check_prices(const uint8_t *sheet, size_t sheet_len,
