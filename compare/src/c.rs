@@ -32,6 +32,7 @@ in_both! {
         sheet_len: usize,
         owners: *const u8,
         owners_len: usize,
+        slack: u8,
         dominating: *mut u8,
         dominating_len: usize
     ) -> u32;

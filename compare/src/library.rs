@@ -7,7 +7,13 @@ use reference::{plain_checks, ListVerdict, PriceVerdict};
 
 /// The two checks of any program. Prices are bytes, four to a price.
 pub trait Checks {
-    fn check_list(&self, sheet: &[u8], owners: &[u8], dominating: &mut [u8]) -> ListVerdict;
+    fn check_list(
+        &self,
+        sheet: &[u8],
+        owners: &[u8],
+        slack: u8,
+        dominating: &mut [u8],
+    ) -> ListVerdict;
     fn check_prices(&self, sheet: &[u8], owners: &[u8], prices: &[u8]) -> PriceVerdict;
 }
 
@@ -16,8 +22,14 @@ pub trait Checks {
 pub struct Second;
 
 impl Checks for Second {
-    fn check_list(&self, sheet: &[u8], owners: &[u8], dominating: &mut [u8]) -> ListVerdict {
-        plain_checks::check_list(sheet, owners, dominating)
+    fn check_list(
+        &self,
+        sheet: &[u8],
+        owners: &[u8],
+        slack: u8,
+        dominating: &mut [u8],
+    ) -> ListVerdict {
+        plain_checks::check_list(sheet, owners, slack, dominating)
     }
 
     fn check_prices(&self, sheet: &[u8], owners: &[u8], prices: &[u8]) -> PriceVerdict {
@@ -112,7 +124,13 @@ impl Library {
 }
 
 impl Checks for Library {
-    fn check_list(&self, sheet: &[u8], owners: &[u8], dominating: &mut [u8]) -> ListVerdict {
+    fn check_list(
+        &self,
+        sheet: &[u8],
+        owners: &[u8],
+        slack: u8,
+        dominating: &mut [u8],
+    ) -> ListVerdict {
         // SAFETY: as in `Library::allocate`.
         let number = unsafe {
             (self.check_list)(
@@ -120,6 +138,7 @@ impl Checks for Library {
                 sheet.len(),
                 owners.as_ptr(),
                 owners.len(),
+                slack,
                 dominating.as_mut_ptr(),
                 dominating.len(),
             )

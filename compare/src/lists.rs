@@ -4,6 +4,7 @@ use crate::comparisons::list_checks::judged;
 use crate::damage::damaged;
 use crate::random::{self, Random};
 use crate::{header, shapes, Checks};
+use reference::limits::MAX_SLACK;
 use reference::sheet::Sheet;
 use reference::{plain, ListVerdict, PriceVerdict};
 
@@ -31,6 +32,49 @@ pub fn near_fair(sheet: &[u8], random: &mut Random) -> Vec<u8> {
     owners
 }
 
+/// A list to check at this slack: often unfair at it, often not.
+pub fn near_slack(sheet: &[u8], slack: u8, random: &mut Random) -> Vec<u8> {
+    match random.below(8) {
+        0 => random::dealt(random, header::agents(sheet), header::chores(sheet)),
+        1 | 2 => near_fair(sheet, random),
+        _ => piled(sheet, slack, random),
+    }
+}
+
+/// A list near the share-out's, with some chores handed to one agent: about as
+/// many as make it unfair at this slack.
+fn piled(sheet: &[u8], slack: u8, random: &mut Random) -> Vec<u8> {
+    let mut owners = near_fair(sheet, random);
+    let sheet = Sheet::parse(sheet).expect("the sheet keeps the rules");
+    let agent = random.below(sheet.agents);
+    // What is easy for its owners makes no waste, mostly.
+    let easy_only = random.chance(50);
+    let mut takes: Vec<usize> = (0..sheet.chores)
+        .filter(|&chore| !easy_only || !sheet.is_difficult(agent, chore))
+        .collect();
+    for _ in 0..random.below(2 * usize::from(slack) + 4) {
+        if !takes.is_empty() {
+            let chore = takes.swap_remove(random.below(takes.len()));
+            owners[chore] = 1 + agent as u8;
+        }
+    }
+    owners
+}
+
+/// From 0 to one more than there may be.
+pub fn slack(random: &mut Random) -> u8 {
+    random.below(usize::from(MAX_SLACK) + 2) as u8
+}
+
+/// The same mostly, or any byte.
+fn any_slack(random: &mut Random) -> u8 {
+    match random.below(8) {
+        0 => random.byte(),
+        1 => [MAX_SLACK + 1, 64, 128, u8::MAX][random.below(4)],
+        _ => slack(random),
+    }
+}
+
 /// The share-out's list and prices, with an owner or a price changed: often accepted.
 pub fn near_accepted(sheet: &[u8], random: &mut Random) -> (Vec<u8>, Vec<u8>) {
     let (agents, chores) = (header::agents(sheet), header::chores(sheet));
@@ -53,6 +97,7 @@ pub fn bytes(prices: Vec<u32>) -> Vec<u8> {
 pub struct Given {
     pub sheet: Vec<u8>,
     pub owners: Vec<u8>,
+    pub slack: u8,
     pub prices: Vec<u8>,
     /// Entries that the list check is lent.
     pub lent: usize,
@@ -61,7 +106,7 @@ pub struct Given {
 impl Given {
     /// A program's list check, with what it may write looked at.
     pub fn judged(&self, program: &dyn Checks, random: &mut Random) -> ListVerdict {
-        judged(program, &self.sheet, &self.owners, self.lent, random)
+        judged(program, self, random)
     }
 
     pub fn check_prices(&self, program: &dyn Checks) -> PriceVerdict {
@@ -69,7 +114,8 @@ impl Given {
     }
 }
 
-/// Faults in the sheet, the list, the prices or what is lent; now and then none.
+/// Faults in the sheet, the list, the slack, the prices or what is lent; now and
+/// then none.
 pub fn damaged_given(random: &mut Random) -> Given {
     let mut sheet = shapes::tiny_sheet(random);
     let (agents, chores) = (header::agents(&sheet), header::chores(&sheet));
@@ -83,6 +129,7 @@ pub fn damaged_given(random: &mut Random) -> Given {
     Given {
         sheet,
         owners,
+        slack: any_slack(random),
         lent: random.below(chores + 3),
         prices: any_prices(random, chores),
     }

@@ -59,3 +59,19 @@ pub fn owners(random: &mut Random, agents: usize, chores: usize) -> Vec<u8> {
         .map(|_| 1 + random.below(agents) as u8)
         .collect()
 }
+
+/// As many chores for each agent as there can be, in any order. Of the lists that
+/// nobody envies at all, such are wasteful most often.
+pub fn dealt(random: &mut Random, agents: usize, chores: usize) -> Vec<u8> {
+    let mut owners: Vec<u8> = (0..chores)
+        .map(|chore| 1 + (chore % agents) as u8)
+        .collect();
+    shuffle(random, &mut owners);
+    owners
+}
+
+pub fn shuffle<T>(random: &mut Random, list: &mut [T]) {
+    for end in (1..list.len()).rev() {
+        list.swap(end, random.below(end + 1));
+    }
+}

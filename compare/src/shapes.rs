@@ -1,6 +1,6 @@
 //! Random sheets of all shapes.
 
-use crate::random::{weights, Random};
+use crate::random::{shuffle, weights, Random};
 use crate::sizes;
 use reference::compose;
 use reference::costs::Costs;
@@ -95,12 +95,6 @@ fn ladder(random: &mut Random, agents: usize, chores: usize) -> Likes {
     let mut likes: Likes = (0..agents).map(&mut row).collect();
     shuffle(random, &mut likes);
     likes
-}
-
-fn shuffle<T>(random: &mut Random, list: &mut [T]) {
-    for end in (1..list.len()).rev() {
-        list.swap(end, random.below(end + 1));
-    }
 }
 
 fn dear(random: &mut Random, agents: usize, chores: usize) -> Likes {

@@ -1,9 +1,10 @@
 //! The comparison's own sheets, by the second program alone: what is meant to
 //! keep the rules does, and each fault has its number. Scratch has every length
-//! near its limit.
+//! near its limit, and slack every number up to one past its limit.
 
 use compare::damage::{harm, Fault, FAULTS};
 use compare::lent::{enough_scratch, short_scratch};
+use compare::lists::{damaged_given, slack};
 use compare::random::Random;
 use compare::{header, shapes, sizes};
 use reference::limits::MAX_CHORES;
@@ -64,6 +65,17 @@ fn scratch_around_its_limit() {
     assert!(enough.range(..64).next().is_none() && enough.range(66..).count() > 200);
     let short = (0..2).chain(31..64).collect();
     assert_eq!(made(short_scratch), short);
+}
+
+#[test]
+fn slacks_around_the_limit() {
+    let mut random = Random::new(76);
+    let slacks: BTreeSet<u8> = (0..SHEETS).map(|_| slack(&mut random)).collect();
+    assert_eq!(slacks, (0..=9).collect());
+    let any = |_| damaged_given(&mut random).slack;
+    let any: BTreeSet<u8> = (0..SHEETS).map(any).collect();
+    assert!(any.is_superset(&slacks) && any.contains(&u8::MAX));
+    assert!(any.len() > 100, "{any:?}");
 }
 
 /// What a fault alone makes of a sheet that keeps the rules.

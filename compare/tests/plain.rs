@@ -2,15 +2,14 @@
 //! may differ. The join is held to the second program's, as the proved one is elsewhere.
 
 use compare::comparisons::joins::joined;
-use compare::comparisons::list_checks::judged;
 use compare::damage::damaged;
 use compare::lent::{assert_all_hold, enough, short, Lengths, Lent};
-use compare::lists::{damaged_given, near_accepted, near_fair};
+use compare::lists::{damaged_given, near_accepted, near_slack, slack, Given};
 use compare::random::{self, Random};
 use compare::shapes::{self, Shape};
 use compare::strands::{any_pair, lent_length};
 use compare::{header, sizes, Checks, Library, PLAIN, PROVED};
-use reference::limits::MAX_CHORES;
+use reference::limits::{MAX_CHORES, MAX_SLACK};
 use reference::sheet::Sheet;
 use reference::{ListVerdict, PriceVerdict};
 
@@ -132,32 +131,48 @@ fn sheet_to_check(random: &mut Random) -> Vec<u8> {
     }
 }
 
+/// A list that keeps the rules, at any slack that there may be.
+fn list_to_check(random: &mut Random, sheet: Vec<u8>) -> Given {
+    let (agents, chores) = (header::agents(&sheet), header::chores(&sheet));
+    let slack = slack(random).min(MAX_SLACK);
+    let owners = if random.chance(80) {
+        near_slack(&sheet, slack, random)
+    } else {
+        random::owners(random, agents, chores)
+    };
+    Given {
+        sheet,
+        owners,
+        slack,
+        lent: chores + random.below(3),
+        prices: Vec::new(),
+    }
+}
+
 #[test]
 fn list_checks() {
     let mut random = Random::new(45);
-    let mut seen = [0; 3];
+    let mut seen = [[0; 3]; MAX_SLACK as usize + 1];
     let mut sizes = sizes::Seen::default();
     for _ in 0..LISTS {
         let sheet = sheet_to_check(&mut random);
-        let (agents, chores) = (header::agents(&sheet), header::chores(&sheet));
-        let owners = if random.chance(80) {
-            near_fair(&sheet, &mut random)
-        } else {
-            random::owners(&mut random, agents, chores)
-        };
-        let lent = chores + random.below(3);
-        let [proved, plain] =
-            [&PROVED, &PLAIN].map(|library| judged(library, &sheet, &owners, lent, &mut random));
-        assert_eq!(plain, proved, "{sheet:?} {owners:?}");
-        match plain {
-            ListVerdict::Holds => seen[0] += 1,
-            ListVerdict::Unfair(..) => seen[1] += 1,
-            ListVerdict::Wasteful => seen[2] += 1,
+        let given = list_to_check(&mut random, sheet);
+        let [proved, plain] = [&PROVED, &PLAIN].map(|library| given.judged(library, &mut random));
+        assert_eq!(plain, proved, "{given:?}");
+        let kind = match plain {
+            ListVerdict::Holds => 0,
+            ListVerdict::Unfair(..) => 1,
+            ListVerdict::Wasteful => 2,
             other => panic!("{other:?}"),
-        }
-        sizes.add(&sheet);
+        };
+        seen[usize::from(given.slack)][kind] += 1;
+        sizes.add(&given.sheet);
     }
-    assert!(seen.iter().all(|&count| count > LISTS / 20), "{seen:?}");
+    for (slack, seen) in seen.iter().enumerate() {
+        // Few lists are envy-free, and of these few are wasteful.
+        let least = if slack == 0 { 1 } else { LISTS / 500 };
+        assert!(seen.iter().all(|&count| count >= least), "{seen:?}");
+    }
     sizes.assert_all(sizes::around_bytes(65).chain(sizes::LONGEST), 1);
 }
 
@@ -187,7 +202,7 @@ fn price_checks() {
 #[test]
 fn checks_of_damaged_sheets_and_lists() {
     let mut random = Random::new(47);
-    let mut numbers = [0; 11];
+    let mut numbers = [0; 14];
     for _ in 0..DAMAGED {
         let given = damaged_given(&mut random);
         let [proved, plain] = [&PROVED, &PLAIN].map(|library| given.judged(library, &mut random));
@@ -201,7 +216,7 @@ fn checks_of_damaged_sheets_and_lists() {
             numbers[usize::from(number)] += 1;
         }
     }
-    for number in [1, 2, 3, 4, 5, 6, 7, 8, 10] {
+    for number in [1, 2, 3, 4, 5, 6, 7, 8, 10, 13] {
         assert!(numbers[number] > 100, "{numbers:?}");
     }
 }

@@ -1,4 +1,5 @@
-//! The price check: the verdict, and that an accepted list holds.
+//! The price check: the verdict, and that an accepted list holds at every slack
+//! but 0.
 
 use crate::comparisons::list_checks::assert_holds;
 use crate::lists::{bytes, damaged_given, near_accepted, Given};
@@ -51,6 +52,7 @@ fn of_prices(sheet: Vec<u8>, owners: Vec<u8>, prices: Vec<u8>) -> (Given, PriceV
     let given = Given {
         sheet,
         owners,
+        slack: 0,
         prices,
         lent: 0,
     };

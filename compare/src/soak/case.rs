@@ -1,6 +1,7 @@
 //! One input and what both programs answered.
 
 use crate::comparisons::joins::Joined;
+use crate::comparisons::list_checks::SLACKS;
 use crate::comparisons::marks::Marks;
 use crate::comparisons::records::Faulty;
 use crate::lists::Given;
@@ -101,6 +102,12 @@ impl Case {
         Case::new(book, Answer::numbered(number, "found"))
     }
 
+    /// A list at every slack, with the verdict at the one given.
+    pub fn of_slacks((given, verdicts): (Given, [ListVerdict; SLACKS])) -> Self {
+        let verdict = verdicts[usize::from(given.slack)];
+        (given, verdict).into()
+    }
+
     fn of_pair(pair: Pair, answer: Answer) -> Self {
         Case::new([pair.first, pair.second].concat(), answer)
     }
@@ -115,7 +122,9 @@ impl<A: Into<Answer>> From<(Vec<u8>, A)> for Case {
 
 impl<A: Into<Answer>> From<(Given, A)> for Case {
     fn from((given, answer): (Given, A)) -> Self {
-        Case::new([given.sheet, given.owners, given.prices].concat(), answer)
+        let slack = vec![given.slack];
+        let input = [given.sheet, given.owners, slack, given.prices];
+        Case::new(input.concat(), answer)
     }
 }
 

@@ -30,7 +30,7 @@ const fn kind(name: &'static str, weight: usize, compare: Compare) -> Kind {
 }
 
 /// Kinds whose inputs take long have few of them.
-pub static KINDS: [Kind; 30] = [
+pub static KINDS: [Kind; 31] = [
     kind("small sheets", 98_000, |random, _| {
         share_outs::kept(random, share_out::work, small_sheet).into()
     }),
@@ -64,8 +64,11 @@ pub static KINDS: [Kind; 30] = [
     kind("records, faults", 60_000, |random, _| {
         records::faulty(random).into()
     }),
-    kind("small lists", 45_000, |random, _| {
+    kind("small lists", 30_000, |random, _| {
         list_checks::small(random).into()
+    }),
+    kind("lists at every slack", 15_000, |random, _| {
+        Case::of_slacks(list_checks::at_every_slack(random, any_sheet))
     }),
     kind("lists of any size", 20_000, |random, _| {
         list_checks::near_share_out(random, any_sheet).into()

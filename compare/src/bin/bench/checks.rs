@@ -1,4 +1,5 @@
-//! The two checks: proved, in plain C, and the second program's.
+//! The two checks: proved, in plain C, and the second program's. Lists are checked
+//! at slack 1, and what holds at the greatest slack, too.
 
 use crate::columns;
 use crate::sheets::{halves, sheets};
@@ -6,7 +7,7 @@ use crate::timing::in_turn;
 use compare::lists::{bytes, shared_out, Given};
 use compare::random::Random;
 use compare::{Checks, Second, PLAIN, PROVED};
-use reference::limits::MAX_CHORES;
+use reference::limits::{MAX_CHORES, MAX_SLACK};
 use reference::{ListVerdict, PriceVerdict};
 
 /// In the order of their columns.
@@ -19,6 +20,7 @@ fn fair(sheet: &[u8]) -> Given {
         lent: owners.len(),
         sheet: sheet.to_vec(),
         owners,
+        slack: 1,
         prices: bytes(prices),
     }
 }
@@ -64,7 +66,8 @@ fn first_envious(random: &mut Random, given: &mut Given) -> usize {
 type Lent = [u8; MAX_CHORES];
 
 fn check_list(program: &dyn Checks, given: &Given, lent: &mut Lent) -> ListVerdict {
-    program.check_list(&given.sheet, &given.owners, &mut lent[..given.lent])
+    let lent = &mut lent[..given.lent];
+    program.check_list(&given.sheet, &given.owners, given.slack, lent)
 }
 
 /// The proved list check.
@@ -115,6 +118,11 @@ fn price_row(name: &str, all: &[Given]) {
 fn rows(random: &mut Random, agents: usize, chores: usize) {
     let sheets = sheets(random, halves, agents, chores);
     let fair: Vec<Given> = sheets.iter().map(|sheet| fair(sheet)).collect();
+    let at_most = |sheet: &Vec<u8>| Given {
+        slack: MAX_SLACK,
+        ..self::fair(sheet)
+    };
+    let slackest: Vec<Given> = sheets.iter().map(at_most).collect();
     let unfair: Vec<Given> = sheets.iter().map(|sheet| unfair(random, sheet)).collect();
     let wasteful: Vec<Given> = sheets.iter().map(|sheet| wasteful(random, sheet)).collect();
     let name = |kind| format!("{kind}, {agents} x {chores}");
@@ -122,6 +130,7 @@ fn rows(random: &mut Random, agents: usize, chores: usize) {
     let is_unfair = |verdict| matches!(verdict, ListVerdict::Unfair(i, _) if i == agents);
     let is_wasteful = |verdict| verdict == ListVerdict::Wasteful;
     list_row(random, &name("list: holds"), &fair, holds);
+    list_row(random, &name("list: holds at slack 8"), &slackest, holds);
     list_row(random, &name("list: unfair"), &unfair, is_unfair);
     list_row(random, &name("list: wasteful"), &wasteful, is_wasteful);
     price_row(&name("prices: accepted"), &fair);
