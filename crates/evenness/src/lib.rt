@@ -59,29 +59,28 @@ fn add_costs(sheet: &[u8], owners: &[u8], m: usize, i: usize, sums: &mut [u32; m
     }
 }
 
-// What up to `slack` chores of agent i cost it, the costliest first: difficult ones, and easy ones where it holds too few of these.
+// What up to `slack` chores of agent i cost it, the costliest first. Each of them costs a, and b - a more where it is difficult; difficult ones go
+// first, so no more of these need be counted than go.
 fn taken_off(sheet: &[u8], owners: &[u8], m: usize, i: usize, slack: u8) -> u32
     requires { ⌜ Given (now sheet) (now owners) (agentsOf (now sheet)) m ⌝ }
     requires { ⌜ i < agentsOf (now sheet) ⌝ }
     ensures { λ r. ⌜ Off (now (sheet .entry)) (now (owners .entry)) slack i r ⌝ }
 {
     let most = slack as u32;
+    let mut held = 0;
     let mut difficult = 0;
-    let mut easy = 0;
     let mut c = 0;
     while c < m && difficult < most {
         if given::owner(owners, c) == i {
-            if sheet::marks_easy(sheet, m, i, c) {
-                easy += 1;
-            } else {
-                difficult += 1;
-            }
+            held += 1;
+            difficult += sheet::mark_at(sheet, m, i, c) as u32;
         }
         c += 1;
     }
-    let left = most - difficult;
-    let spare = if easy < left { easy } else { left };
-    difficult * sheet::difficult_weight(sheet) + spare * sheet::easy_weight(sheet)
+    let count = if held < most { held } else { most };
+    let a = sheet::easy_weight(sheet);
+    let b = sheet::difficult_weight(sheet);
+    count * a + difficult * (b - a)
 }
 
 // The first agent that agent i envies, n where there is none.

@@ -1,7 +1,7 @@
 -- Laws of the number of those below a bound that pass a test.
 -- Assumes nothing.
 use Prim.Native.Nat.{ℕ, _+_, _*_, _-_, _≤_, _<_}
-use mathlib.Core.Bool.{Bool, true, false, not, _&&_}
+use mathlib.Core.Bool.{Bool, true, false, cond, not, _&&_}
 use mathlib.Core.Path.{_≡_, sym, _∙_}
 use native.Mathlib.Nat.{le-refl, mul-one, mul-comm}
 use native.Mathlib.Omega.{arith}
@@ -9,7 +9,7 @@ use borrow.Author.Tests.{not-false}
 use Rattle.finite.specs.Sums.{sumTo, sumWhere, countTo}
 use Rattle.finite.proofs.Tests.{not-yes}
 use Rattle.finite.proofs.Sums.{sum-const}
-use Rattle.finite.proofs.Where.{where-zero, where-hit, where-miss, where-split, where-cut, where-value, where-wider, where-strict-test, where-le-sum, where-none, where-not, where-change, where-point, where-scale}
+use Rattle.finite.proofs.Where.{where-zero, where-next, where-hit, where-miss, where-split, where-cut, where-value, where-wider, where-strict-test, where-le-sum, where-none, where-not, where-change, where-point, where-scale}
 
 pub ones : (n : ℕ) → sumTo n (λ c. 1) ≡ n
 ones n = sum-const n 1 ∙ mul-one n
@@ -17,6 +17,10 @@ ones n = sum-const n 1 ∙ mul-one n
 pub count-zero : (t : ℕ → Bool) → countTo 0 t ≡ 0
 unfolding countTo sumWhere
 count-zero t = where-zero t (λ c. 1)
+
+pub count-next : (k : ℕ) (t : ℕ → Bool) → countTo (k + 1) t ≡ countTo k t + cond (t k) 1 0
+unfolding countTo sumWhere
+count-next k t = where-next k t (λ c. 1)
 
 pub count-hit : (k : ℕ) (t : ℕ → Bool) → t k ≡ true → countTo (k + 1) t ≡ countTo k t + 1
 unfolding countTo sumWhere

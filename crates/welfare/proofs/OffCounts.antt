@@ -3,7 +3,7 @@
 use Prim.Native.Nat.{ℕ, zero, suc, _+_, _*_, _-_, _≤_, _<_, min}
 use mathlib.Core.Bool.{Bool, false, not, _&&_}
 use mathlib.Core.Path.{_≡_, refl, sym, ap, ap₂, _∙_}
-use native.Mathlib.Nat.{add-mul}
+use native.Mathlib.Nat.{add-mul, mul-add}
 use native.Mathlib.Numerals.{unary-clauses}
 use native.Mathlib.Omega.{arith}
 use borrow.Author.Tests.{not-true}
@@ -24,21 +24,26 @@ use Rattle.welfare.proofs.Slack.{count-left}
 parts : (p q : ℕ) {r : ℕ} (w : ℕ) → p + q ≡ r → p * w + q * w ≡ r * w
 parts p q w e = sym (add-mul p q w) ∙ ap (λ k. k * w) e
 
-module _ (I : Instance) (i : ℕ) where
-  -- how many of the chores that are left are easy for agent i, and how many difficult
-  abbrev pub easyOf : (ℕ → Bool) → ℕ
-  easyOf left = countTo (I .m) (λ c. left c && I .easy i c)
+mul-parts : (p q : ℕ) {r : ℕ} (k : ℕ) → p + q ≡ r → k * p + k * q ≡ k * r
+mul-parts p q k e = sym (mul-add k p q) ∙ ap (λ w. k * w) e
 
+module _ (I : Instance) (i : ℕ) where
+  -- how many of the chores that are left are difficult for agent i
   abbrev pub difficultOf : (ℕ → Bool) → ℕ
   difficultOf left = countTo (I .m) (λ c. left c && not (I .easy i c))
 
-  pub cost-by-counts : (left : ℕ → Bool) → sumWhere (I .m) left (cost I i) ≡ easyOf left * I .a + difficultOf left * I .b
-  cost-by-counts left =
-      let m = I .m in
-      where-split m left (I .easy i) (cost I i)
-      ∙ ap₂ _+_
-      (where-value m _ (λ c _ p. cost-easy I i c (and-elim (left c) (I .easy i c) p .1)) ∙ where-const m (I .a) _)
-      (where-value m _ (λ c _ p. cost-difficult I i c (not-true _ (and-elim (left c) (not (I .easy i c)) p .1))) ∙ where-const m (I .b) _)
+  -- each chore costs a, and b - a more where it is difficult
+  module _ (dearer : I .a < I .b) (left : ℕ → Bool) where
+    cost-by-counts : sumWhere (I .m) left (cost I i) ≡ countTo (I .m) left * I .a + difficultOf left * (I .b - I .a)
+    cost-by-counts =
+        let m = I .m in
+        let easy : ℕ → Bool = λ c. left c && I .easy i c in
+        let difficult : ℕ → Bool = λ c. left c && not (I .easy i c) in
+        let at-a = where-value m easy (λ c _ p. cost-easy I i c (and-elim (left c) (I .easy i c) p .1)) ∙ where-const m (I .a) easy in
+        let at-b = where-value m difficult (λ c _ p. cost-difficult I i c (not-true _ (and-elim (left c) (not (I .easy i c)) p .1))) ∙ where-const m (I .b) difficult in
+        let more = mul-parts (I .a) (I .b - I .a) {r = I .b} (countTo m difficult) (omega arith) in
+        let all = parts (countTo m easy) (countTo m difficult) {r = countTo m left} (I .a) (sym (count-split m left (I .easy i))) in
+        omega (arith, where-split m left (I .easy i) (cost I i), at-a, at-b, more, all)
 
   -- a difficult chore goes first
   module _ (dearer : I .a < I .b) (left : ℕ → Bool) where
@@ -82,20 +87,13 @@ module _ (I : Instance) (i : ℕ) where
     difficult-left zero = simp unary-clauses refl
     difficult-left (suc k) = omega (arith, difficult-off dearer (leftAfter k I x i), difficult-left k)
 
-    easy-left : (k : ℕ) → easyOf (leftAfter k I x i) ≡ easyOf (owns x i) - (k - difficultOf (owns x i))
-    unfolding bundleSize
-    easy-left k =
-        let before = count-split (I .m) (owns x i) (I .easy i) in
-        let after = count-split (I .m) (leftAfter k I x i) (I .easy i) in
-        omega (arith, before, after, count-left I x i k, difficult-left k)
-
-    -- what is taken off: difficult chores first, and easy ones where there are too few of them
-    pub off-by-counts : (t : ℕ) → min t (difficultOf (owns x i)) * I .b + min (t - difficultOf (owns x i)) (easyOf (owns x i)) * I .a + restCost t I x i ≡ costTo I x i i
-    unfolding restCost costTo total
+    -- what is taken off: as many chores as t, or all of them, difficult ones first
+    pub off-by-counts : (t : ℕ) → min t (bundleSize (I .m) x i) * I .a + min t (difficultOf (owns x i)) * (I .b - I .a) + restCost t I x i ≡ costTo I x i i
+    unfolding restCost costTo total bundleSize
     off-by-counts t =
+        let T = countTo (I .m) (owns x i) in
         let H = difficultOf (owns x i) in
-        let E = easyOf (owns x i) in
-        let rest = cost-by-counts (leftAfter t I x i) ∙ ap₂ (λ e h. e * I .a + h * I .b) (easy-left t) (difficult-left t) in
-        let difficult = parts (min t H) (H - t) {r = H} (I .b) (omega arith) in
-        let easy = parts (min (t - H) E) (E - (t - H)) {r = E} (I .a) (omega arith) in
-        omega (arith, rest, cost-by-counts (owns x i), difficult, easy)
+        let rest = cost-by-counts dearer (leftAfter t I x i) ∙ ap₂ (λ k h. k * I .a + h * (I .b - I .a)) (count-left I x i t) (difficult-left t) in
+        let all = parts (min t T) (T - t) {r = T} (I .a) (omega arith) in
+        let difficult = parts (min t H) (H - t) {r = H} (I .b - I .a) (omega arith) in
+        omega (arith, rest, cost-by-counts dearer (owns x i), all, difficult)
