@@ -11,7 +11,7 @@ use Rattle.model.specs.Fairness.{owns, costTo}
 unfoldable pub costliest : Instance → ℕ → (ℕ → Bool) → ℕ
 costliest I i left = chosen (I .m) left (λ d c. ltb (cost I i c) (cost I i d))
 
--- the chores that are left, and then the costliest of them is "taken off"
+-- what is left of them once the costliest is "taken off"
 unfoldable pub withoutCostliest : Instance → ℕ → (ℕ → Bool) → ℕ → Bool
 withoutCostliest I i left c = left c && not (eqb c (costliest I i left))
 

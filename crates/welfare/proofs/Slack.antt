@@ -1,25 +1,25 @@
 -- Evenness up to a slack: what is left after t chores decides.
 -- Assumes nothing.
 use Prim.Native.Nat.{ℕ, zero, suc, _+_, _-_, _≤_, _<_}
-use mathlib.Core.Bool.{Bool, true, false}
-use mathlib.Core.Path.{_≡_, refl, sym, ap₂, _∙_}
+use mathlib.Core.Bool.{Bool, true, false, not}
+use mathlib.Core.Path.{_≡_, refl, sym, ap, ap₂, _∙_}
 use native.Mathlib.Nat.{le-refl, le-trans}
 use native.Mathlib.Numerals.{unary-clauses}
 use native.Mathlib.Omega.{arith}
 use lib.Dec.{leb}
 use borrow.Author.Tests.{leb-true, le-leb, not-true}
 use Rattle.finite.specs.Sums.{maxWhere, countTo}
-use Rattle.finite.specs.Search.{allBelow}
+use Rattle.finite.specs.Search.{anyBelow, allBelow, firstBelow}
 use Rattle.finite.proofs.Tests.{clash, bool-eq, not-yes}
 use Rattle.finite.proofs.Below.{by-less}
-use Rattle.finite.proofs.Search.{any-elim, any-intro, all-elim, all-intro, all-cong}
+use Rattle.finite.proofs.Search.{any-elim, any-intro, any-cong, all-elim, all-intro, all-cong, first-cong}
 use Rattle.finite.proofs.Where.{where-none}
 use Rattle.finite.proofs.Counts.{count-empty}
 use Rattle.model.specs.Instance.{Instance, cost}
 use Rattle.model.specs.Fairness.{bundleSize, total, costTo, fair, ef1}
 use Rattle.model.specs.Slack.{leftAfter, restCost, fairUpTo, evenUpTo, envyFree}
-use Rattle.model.specs.Verdicts.{envies}
-use Rattle.welfare.specs.Slack.{SlackLaws}
+use Rattle.model.specs.Verdicts.{envies, firstOfPair, secondOfPair, listVerdict}
+use Rattle.welfare.specs.Slack.{verdictToday, SlackLaws}
 use Rattle.welfare.proofs.Evenness.{fair-elim, fair-intro}
 use Rattle.welfare.proofs.TakenOff.{taken-cost, taken-count}
 
@@ -119,6 +119,15 @@ module _ (I : Instance) (x : ℕ → ℕ) where
   unfolding evenUpTo ef1
   even-one = all-cong (I .n) (λ i _. all-cong (I .n) (λ j _. slack-today I x i j))
 
+  verdict-one : listVerdict 1 I x ≡ verdictToday I x
+  unfolding listVerdict verdictToday envies firstOfPair secondOfPair
+  verdict-one =
+      let same : (i j : ℕ) → not (fairUpTo 1 I x i j) ≡ not (fair I x i j) = λ i j. ap not (slack-today I x i j) in
+      let i = firstBelow (I .n) (λ i. anyBelow (I .n) (λ j. not (fair I x i j))) in
+      let first = first-cong (I .n) (λ i _. any-cong (I .n) (λ j _. same i j)) in
+      let second = first-cong (I .n) (λ j _. same i j) in
+      rw (even-one, first, second)
+
   pub even-larger : (t u : ℕ) → t ≤ u → evenUpTo t I x ≡ true → evenUpTo u I x ≡ true
   even-larger t u l e = even-intro I x u (λ i j a b. slack-wider I x i j t u l (even-elim I x t e i j a b))
 
@@ -133,6 +142,7 @@ module _ (I : Instance) (x : ℕ → ℕ) where
         none = even-none;
         today = slack-today I x;
         one = even-one;
+        verdict = verdict-one;
         wider = λ t u i j. slack-wider I x i j t u;
         larger = even-larger;
         few = λ t i j. slack-few I x i j t;
