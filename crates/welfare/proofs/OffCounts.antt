@@ -1,4 +1,4 @@
--- With two costs a count is enough: difficult chores are taken off first, then easy ones.
+-- With two costs two counts are enough: difficult chores are taken off first, then easy ones.
 -- Assumes nothing.
 use Prim.Native.Nat.{ℕ, zero, suc, _+_, _*_, _-_, _≤_, _<_, min}
 use mathlib.Core.Bool.{Bool, false, not, _&&_}
@@ -32,8 +32,8 @@ module _ (I : Instance) (i : ℕ) where
   abbrev pub difficultOf : (ℕ → Bool) → ℕ
   difficultOf left = countTo (I .m) (λ c. left c && not (I .easy i c))
 
-  -- each chore costs a, and b - a more where it is difficult
   module _ (dearer : I .a < I .b) (left : ℕ → Bool) where
+    -- each chore costs a, and b - a more where it is difficult
     cost-by-counts : sumWhere (I .m) left (cost I i) ≡ countTo (I .m) left * I .a + difficultOf left * (I .b - I .a)
     cost-by-counts =
         let m = I .m in
@@ -45,8 +45,7 @@ module _ (I : Instance) (i : ℕ) where
         let all = parts (countTo m easy) (countTo m difficult) {r = countTo m left} (I .a) (sym (count-split m left (I .easy i))) in
         omega (arith, where-split m left (I .easy i) (cost I i), at-a, at-b, more, all)
 
-  -- a difficult chore goes first
-  module _ (dearer : I .a < I .b) (left : ℕ → Bool) where
+    -- a difficult chore goes first
     some-difficult : Hit (I .m) (λ c. left c && not (I .easy i c)) → difficultOf (withoutCostliest I i left) + 1 ≡ difficultOf left
     some-difficult r =
         let d = r .index in
