@@ -12,24 +12,16 @@ use Rattle.finite.proofs.Below.{by-same}
 use Rattle.model.specs.Sheet.{agentsOf, choresOf}
 use Rattle.model.specs.Refusals.{_orElse_, sheetRefusal, ownersRefusal, pricesRefusal, priceRefusal}
 use Rattle.model.specs.Replies.{Reply, refused, accepted}
-use Rattle.model.specs.Verdicts.{unlessRefused, priceCheck}
+use Rattle.model.specs.Verdicts.{priceCheck}
 use Rattle.model.specs.Promises.{HoldsFromOne}
 use Rattle.sheet.proofs.OrElse.{or-else-first, or-else-zero, peel}
+use Rattle.welfare.proofs.Answered.{unless-refused, not-accepted}
 use Rattle.welfare.proofs.AcceptedSheet.{accepted-holds}
 use Rattle.pricebytes.specs.PriceBytes.{pricesIn}
 use Rattle.cmodel.specs.Numbers.{verdictNumber}
 use Rattle.cmodel.specs.Promises.{priceRefusalInC, priceCheckInC, PricesCheckedInC}
 use Rattle.cmodel.proofs.PriceChecks.{whole}
 use Rattle.cmodel.proofs.Verdicts.{told-as}
-
--- with a refusal the verdict does not count
-unless-refused : {k : ℕ} (v : Reply) → (k ≡ 0 → ⊥) → unlessRefused k v ≡ refused k
-unfolding unlessRefused
-unless-refused {k} v h = rw (ne-eqb k 0 h)
-
--- a refusal is not `accepted`
-not-accepted : {k : ℕ} → refused k ≡ accepted → ⊥
-not-accepted e = let z : _≡_ {A = ℕ} 0 1 = cc in absurd (omega arith)
 
 module _ (s owners bytes : List ℕ) where
   -- other than 4 m bytes are always turned down
@@ -57,7 +49,7 @@ module _ (s owners bytes : List ℕ) where
   holding e =
       by-same (length bytes) (4 * choresOf s)
       (λ sized. accepted-holds s owners (pricesIn bytes) (whole s owners bytes sized ∙ e))
-      (λ odd. absurd (not-accepted (sym (odd-refused odd) ∙ e)))
+      (λ odd. absurd (not-accepted _ (sym (odd-refused odd) ∙ e)))
 
   told : {r : ℕ} {reply : Reply} → r ≡ verdictNumber reply → reply ≡ priceCheckInC s owners bytes → PricesCheckedInC s owners bytes r
   told is e = record { answer = told-as e is; holding = holding }

@@ -13,7 +13,7 @@ use Rattle.model.specs.Instance.{cost}
 use Rattle.model.specs.Sheet.{rowOf, isDifficult, asMarked}
 use Rattle.sheet.specs.Readers.{RowInSheet}
 use Rattle.sheet.proofs.Marks.{mark-in-row}
-use Rattle.given.specs.Given.{Marked, Costed, Cost}
+use Rattle.given.specs.Given.{Marked}
 use Rattle.given.proofs.Costs.{weighed-easier, read-marked, cost-read}
 use Rattle.evenness.specs.Adding.{Adding}
 
@@ -35,7 +35,5 @@ module _ {s owners : List ℕ} {m a b i first count : ℕ} (A : Adding s owners 
     pub byte-marked : Marked a b mark
     byte-marked = read-marked (weighed-easier (A .weighed)) (bit byte (7 - j)) read
 
-    pub byte-cost : {r : ℕ} → r ≡ cond (eqb mark 1) b a → Cost (cost (asMarked s) i (first + j)) r
-    byte-cost e =
-        let at : Costed s m a b i (first + j) = record { weighed = A .weighed; agent = A .agent; chore = omega (arith, A .chores) } in
-        cost-read at (rw is-mark e)
+    pub byte-cost : {r : ℕ} → r ≡ cond (eqb mark 1) b a → r ≡ cost (asMarked s) i (first + j)
+    byte-cost e = cost-read (A .weighed) i (first + j) (rw is-mark e)

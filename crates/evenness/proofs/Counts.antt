@@ -6,18 +6,18 @@ use mathlib.Core.List.{List}
 use mathlib.Core.Path.{_≡_, refl, sym, ap₂, _∙_}
 use native.Mathlib.Omega.{arith}
 use Rattle.finite.specs.Sums.{countTo}
-use Rattle.finite.proofs.Tests.{by-test, and-elim, not-on, not-off}
+use Rattle.finite.proofs.Tests.{and-elim}
 use Rattle.finite.proofs.Below.{by-less}
 use Rattle.finite.proofs.Packed.{digit-below}
 use Rattle.finite.proofs.Counts.{count-zero, count-next, count-hit, count-miss, count-le, count-mono, count-longer}
 use Rattle.model.specs.Instance.{ownerOf}
-use Rattle.model.specs.Sheet.{choresOf, easyWeight, difficultWeight, isDifficult, marksEasy, asMarked}
+use Rattle.model.specs.Sheet.{choresOf, easyWeight, difficultWeight, isDifficult, asMarked}
 use Rattle.model.specs.Fairness.{owns, bundleSize}
 use Rattle.welfare.proofs.Costs.{owned-by, owned-not}
 use Rattle.welfare.proofs.OffCounts.{off-by-counts}
 use Rattle.given.specs.Given.{Given}
 use Rattle.given.specs.Burdens.{burdens}
-use Rattle.given.proofs.Burdens.{burdens-hit, burdens-other, burdens-easy}
+use Rattle.given.proofs.Burdens.{burdens-other, burdens-mark}
 use Rattle.evenness.specs.Off.{Off}
 
 -- a mark that was read is 0 or 1
@@ -33,14 +33,6 @@ module _ (s owners : List ℕ) (i : ℕ) where
   pub counted-none : Counted s owners i 0 0 0
   counted-none = record { all = sym (count-zero _); difficults = sym (count-zero _) }
 
-  -- a chore of its own is difficult as its mark says
-  burden-mark : (c : ℕ) → ownerOf owners c ≡ i → _≡_ {A = ℕ} (cond (burdens s owners i c) 1 0) (cond (isDifficult s i c) 1 0)
-  unfolding marksEasy
-  burden-mark c mine =
-      by-test (isDifficult s i c)
-      (λ h. rw (h, burdens-hit s owners i c mine (not-off h)))
-      (λ h. rw (h, burdens-easy s owners i c (not-on h)))
-
   module _ {c held difficult : ℕ} (k : Counted s owners i c held difficult) where
     pub few-held : held ≤ c
     few-held = rw (k .all) (count-le c _)
@@ -52,7 +44,7 @@ module _ (s owners : List ℕ) (i : ℕ) where
     counted-own mine read =
         record {
           all = ap₂ _+_ (k .all) refl ∙ sym (count-hit c _ (owned-by (ownerOf owners) i c mine));
-          difficults = ap₂ _+_ (k .difficults) (read ∙ sym (burden-mark c mine)) ∙ sym (count-next c _);
+          difficults = ap₂ _+_ (k .difficults) (rw (burdens-mark s owners i c mine) read) ∙ sym (count-next c _);
         }
 
     pub counted-other : (ownerOf owners c ≡ i → ⊥) → Counted s owners i (c + 1) held difficult

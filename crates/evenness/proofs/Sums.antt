@@ -1,17 +1,16 @@
 -- Laws of the sums that the test for evenness goes by.
 -- Assumes nothing.
 use Prim.Native.Nat.{ℕ, _*_, _-_, _≤_, _<_}
-use mathlib.Core.Bool.{not}
 use mathlib.Core.List.{List}
 use mathlib.Core.Path.{_≡_, sym, _∙_}
 use native.Mathlib.Nat.{le-of-lt, le-trans, mul-le-mul}
 use native.Mathlib.Omega.{arith}
-use lib.Dec.{leb, ltb}
+use lib.Dec.{ltb}
 use lib.ListN.{getD}
-use borrow.Author.Tests.{ltb-false, lt-ltb, le-ltb, le-leb, lt-leb}
+use borrow.Author.Tests.{ltb-false, le-ltb}
 use Rattle.finite.specs.Search.{firstBelow}
 use Rattle.finite.specs.Lists.{Table}
-use Rattle.finite.proofs.Below.{by-less}
+use Rattle.finite.proofs.Below.{less-is}
 use Rattle.finite.proofs.Search.{first-cong, first-none, first-none-intro}
 use Rattle.finite.proofs.Sweeps.{sums-bound}
 use Rattle.model.specs.Limits.{maxAgents, maxChores, maxWeight}
@@ -25,13 +24,6 @@ use Rattle.welfare.proofs.Costs.{cost-at-most}
 use Rattle.given.specs.Given.{Given}
 use Rattle.given.proofs.Given.{given-few}
 use Rattle.evenness.specs.Off.{Off}
-
--- to be above is not to be at most
-above-is : (other rest : ℕ) → ltb other rest ≡ not (leb rest other)
-above-is other rest =
-    by-less other rest
-    (λ l. rw (lt-ltb other rest l, lt-leb rest other l))
-    (λ l. rw (le-ltb other rest l, le-leb rest other l))
 
 module _ {s owners : List ℕ} {n m : ℕ} (g : Given s owners n m) (i : ℕ) where
   -- a sum has room for one cost more
@@ -56,7 +48,7 @@ module _ {s owners : List ℕ} {n m : ℕ} (g : Given s owners n m) (i : ℕ) wh
           let x = ownerOf owners in
           let few = given-few g in
           let rest : costTo I x i i - off ≡ restCost t I x i = omega (arith, taken .whole) in
-          rw (h .entry i (omega arith), h .entry j (omega arith), rest, slack-test I x i j t) (above-is (costTo I x i j) (restCost t I x i))
+          rw (h .entry i (omega arith), h .entry j (omega arith), rest, slack-test I x i j t) (less-is (costTo I x i j) (restCost t I x i))
 
       pub envied-first : firstBelow n (λ j. ltb (getD sums j 0) (getD sums i 0 - off)) ≡ firstBelow n (envies t (asMarked s) (ownerOf owners) i)
       envied-first = first-cong n envied

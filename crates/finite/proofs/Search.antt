@@ -86,6 +86,17 @@ unfolding allBelow
 all-cong zero h = refl
 all-cong (suc k) h = ap₂ _&&_ (all-cong k (lower h)) (h k (le-refl _))
 
+-- each of two numbers
+
+pub pairs-elim : (n : ℕ) (t : ℕ → ℕ → Bool) → allBelow n (λ i. allBelow n (λ j. t i j)) ≡ true → (i j : ℕ) → i < n → j < n → t i j ≡ true
+pairs-elim n t e i j l k = all-elim n (λ j. t i j) (all-elim n (λ i. allBelow n (λ j. t i j)) e i l) j k
+
+pub pairs-intro : (n : ℕ) (t : ℕ → ℕ → Bool) → ((i j : ℕ) → i < n → j < n → t i j ≡ true) → allBelow n (λ i. allBelow n (λ j. t i j)) ≡ true
+pairs-intro n t all = all-intro n (λ i. allBelow n (λ j. t i j)) (λ i l. all-intro n (λ j. t i j) (λ j. all i j l))
+
+pub pairs-cong : (n : ℕ) {t u : ℕ → ℕ → Bool} → ((i j : ℕ) → t i j ≡ u i j) → allBelow n (λ i. allBelow n (λ j. t i j)) ≡ allBelow n (λ i. allBelow n (λ j. u i j))
+pairs-cong n same = all-cong n (λ i _. all-cong n (λ j _. same i j))
+
 -- firstBelow
 
 pub first-zero : (t : ℕ → Bool) → firstBelow 0 t ≡ 0

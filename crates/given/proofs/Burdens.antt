@@ -3,14 +3,14 @@
 use Prim.Native.Nat.{ℕ, _≤_, _<_}
 use mathlib.Core.Bool.{true, false, cond, not, _&&_}
 use mathlib.Core.List.{List}
-use mathlib.Core.Path.{_≡_}
+use mathlib.Core.Path.{_≡_, sym, _∙_}
 use lib.Dec.{ltb}
 use borrow.Author.Tests.{lt-ltb, le-ltb, not-true}
 use Rattle.finite.specs.Search.{firstBelow}
-use Rattle.finite.proofs.Tests.{and-elim, and-intro, and-no-left, and-no-right, not-on, not-off}
+use Rattle.finite.proofs.Tests.{by-test, and-elim, and-intro, and-no-left, and-no-right, not-on, not-off}
 use Rattle.finite.proofs.Search.{any-first}
 use Rattle.model.specs.Instance.{ownerOf}
-use Rattle.model.specs.Sheet.{marksEasy, asMarked}
+use Rattle.model.specs.Sheet.{isDifficult, marksEasy, asMarked}
 use Rattle.model.specs.Fairness.{owns}
 use Rattle.welfare.specs.Waste.{burdened}
 use Rattle.welfare.proofs.Costs.{owned, owned-by, owned-not}
@@ -35,6 +35,14 @@ module _ (s owners : List ℕ) (i c : ℕ) where
   pub burdens-easy : marksEasy s i c ≡ true → burdens s owners i c ≡ false
   unfolding burdens
   burdens-easy easy = and-no-right (owns (ownerOf owners) i c) (not-off easy)
+
+  -- a chore of its own is difficult as its mark says
+  pub burdens-mark : ownerOf owners c ≡ i → burdens s owners i c ≡ isDifficult s i c
+  unfolding marksEasy
+  burdens-mark mine =
+      by-test (isDifficult s i c)
+      (λ h. burdens-hit mine (not-off h) ∙ sym h)
+      (λ h. burdens-easy (not-on h) ∙ sym h)
 
 module _ {s owners : List ℕ} {n m : ℕ} (g : Given s owners n m) where
   -- an agent is burdened where the search for a burden finds one

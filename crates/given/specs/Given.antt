@@ -3,7 +3,6 @@ use Prim.Native.Nat.{ℕ, _≤_, _<_}
 use mathlib.Core.List.{List}
 use mathlib.Core.Path.{_≡_}
 use lib.ListN.{length, getD}
-use Rattle.model.specs.Limits.{maxWeight}
 use Rattle.model.specs.Sheet.{agentsOf, choresOf, easyWeight, difficultWeight}
 use Rattle.model.specs.Refusals.{_orElse_, sheetRefusal, ownersRefusal}
 use Rattle.sheet.specs.Valid.{Valid}
@@ -37,15 +36,3 @@ pub record Owned (owners : List ℕ) (c : ℕ) : Type 0 where
 pub record Marked (a b mark : ℕ) : Type 0 where
   pub easier : a ≤ b
   pub either : mark < 2
-
--- what is asked where a cost is read: i is one of the sheet's agents, and c one of its chores
-pub record Costed (s : List ℕ) (m a b i c : ℕ) : Type 0 where
-  pub weighed : Weighed s m a b
-  pub agent : i < agentsOf s
-  pub chore : c < m
-
--- a cost that was read, and its range
-pub record Cost (value r : ℕ) : Type 0 where
-  pub is : r ≡ value
-  pub positive : 0 < r
-  pub fits : r ≤ maxWeight

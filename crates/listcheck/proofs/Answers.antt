@@ -6,7 +6,7 @@ use mathlib.Core.List.{List}
 use mathlib.Core.Path.{_≡_, refl, sym, _∙_}
 use native.Mathlib.Omega.{arith}
 use lib.ListN.{length}
-use borrow.Author.Tests.{ne-eqb, not-false}
+use borrow.Author.Tests.{not-false}
 use Rattle.finite.specs.Search.{firstBelow}
 use Rattle.model.specs.Limits.{maxSlack}
 use Rattle.model.specs.Instance.{ownerOf}
@@ -21,7 +21,7 @@ use Rattle.model.proofs.Pairs.{FirstPair, pair-found, pair-none-elim}
 use Rattle.sheet.proofs.OrElse.{or-else-zero, or-else-none, or-else-assoc}
 use Rattle.sheet.proofs.Refusal.{lent-room, slack-ok}
 use Rattle.welfare.proofs.Slack.{even-intro}
-use Rattle.welfare.proofs.Answered.{not-refused}
+use Rattle.welfare.proofs.Answered.{not-refused, refused-told}
 use Rattle.welfare.proofs.ListVerdict.{verdict-unfair, verdict-larger}
 use Rattle.given.specs.Given.{givenRefusal, Given}
 use Rattle.given.proofs.Given.{given}
@@ -52,8 +52,8 @@ module _ (s owners : List ℕ) (slack lent : ℕ) (fine : listRefusal s owners s
 
 module _ (s owners : List ℕ) (slack lent : ℕ) where
   pub check-refused : {k : ℕ} → k ≡ listRefusal s owners slack lent → (k ≡ 0 → ⊥) → refused k ≡ listCheck s owners slack lent
-  unfolding listCheck unlessRefused
-  check-refused {k} e h = rw (← e, ne-eqb k 0 h)
+  unfolding listCheck
+  check-refused e h = refused-told _ e h
 
   pub check-judged : listRefusal s owners slack lent ≡ 0 → listCheck s owners slack lent ≡ listVerdict slack (asMarked s) (ownerOf owners)
   unfolding listCheck unlessRefused
@@ -72,7 +72,7 @@ pub holds-other : holds ≡ wasteful → ⊥
 holds-other e = let z : _≡_ {A = ℕ} 0 1 = cc in omega arith
 
 -- "A list that holds at one slack holds at every larger slack"
-pub holds-larger : (s owners : List ℕ) (slack lent : ℕ) → listCheck s owners slack lent ≡ holds → (t : ℕ) → slack ≤ t → t ≤ maxSlack → listCheck s owners t lent ≡ holds
+holds-larger : (s owners : List ℕ) (slack lent : ℕ) → listCheck s owners slack lent ≡ holds → (t : ℕ) → slack ≤ t → t ≤ maxSlack → listCheck s owners t lent ≡ holds
 unfolding listCheck
 holds-larger s owners slack lent h t more few =
     let both = not-refused (listRefusal s owners slack lent) (listVerdict slack (asMarked s) (ownerOf owners)) refused-holds h in

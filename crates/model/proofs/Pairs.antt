@@ -5,7 +5,7 @@ use mathlib.Core.Bool.{Bool, true, false}
 use mathlib.Core.Path.{_≡_, ap, _∙_}
 use native.Mathlib.Nat.{lt-of-lt-of-le}
 use Rattle.finite.specs.Search.{anyBelow, firstBelow}
-use Rattle.finite.proofs.Search.{any-elim, any-intro, any-none, any-none-intro, first-some, first-unique, first-passes, first-before, first-none-intro}
+use Rattle.finite.proofs.Search.{any-elim, any-intro, any-none, any-none-intro, any-cong, first-some, first-unique, first-passes, first-before, first-none-intro, first-cong}
 use Rattle.model.specs.Verdicts.{firstOfPair, secondOfPair}
 
 -- (i, j) passes, and no pair before it does
@@ -39,6 +39,18 @@ module _ (n : ℕ) (t : ℕ → ℕ → Bool) where
   unfolding firstOfPair
   pair-none-elim all i j l k =
       any-none n (λ j. t i j) (first-before n (λ i. anyBelow n (λ j. t i j)) i (lt-of-lt-of-le l all)) j k
+
+-- tests that say the same of numbers below n have the same first pair
+module _ (n : ℕ) {t u : ℕ → ℕ → Bool} (same : (i j : ℕ) → i < n → j < n → t i j ≡ u i j) where
+  pub pair-cong : firstOfPair n t ≡ firstOfPair n u
+  unfolding firstOfPair
+  pair-cong = first-cong n (λ i l. any-cong n (λ j k. same i j l k))
+
+  pub second-cong : firstOfPair n t < n → secondOfPair n t ≡ secondOfPair n u
+  unfolding secondOfPair
+  second-cong l =
+      first-cong n (λ j k. same (firstOfPair n t) j l k)
+      ∙ ap (λ i. firstBelow n (λ j. u i j)) pair-cong
 
 -- what a search through the pairs establishes is the first pair
 pub pair-first : {n : ℕ} {t : ℕ → ℕ → Bool} {i j : ℕ} → FirstPair n t i j → firstOfPair n t ≡ i

@@ -8,10 +8,10 @@ use native.Mathlib.Nat.{zero-sub}
 use native.Mathlib.Omega.{arith}
 use lib.Dec.{ltb}
 use lib.ListN.{length}
-use borrow.Author.Tests.{ltb-true, lt-ltb, le-ltb, ne-eqb}
+use borrow.Author.Tests.{ltb-true, lt-ltb, le-ltb}
 use Rattle.finite.specs.Search.{anyBelow, firstBelow}
 use Rattle.finite.proofs.Tests.{by-test, cond-cong}
-use Rattle.finite.proofs.Search.{any-none, any-cong, first-le, first-cong}
+use Rattle.finite.proofs.Search.{any-none, first-le}
 use Rattle.finite.proofs.Where.{where-none}
 use Rattle.model.specs.Limits.{maxAgents}
 use Rattle.model.specs.Instance.{Instance, ownerOf, priceOf}
@@ -21,6 +21,8 @@ use Rattle.model.specs.Prices.{priceSum, dearest, priceUpToOne}
 use Rattle.model.specs.Refusals.{priceRefusal}
 use Rattle.model.specs.Replies.{Reply, refused, offPrice, priceEnvy, accepted}
 use Rattle.model.specs.Verdicts.{firstOfPair, secondOfPair, unlessRefused, firstOffPrice, enviesByPrice, priceVerdict, priceCheck}
+use Rattle.model.proofs.Pairs.{pair-cong, second-cong}
+use Rattle.welfare.proofs.Answered.{refused-told}
 use Rattle.totals.specs.Totals.{Summed}
 use Rattle.pricecheck.specs.Parts.{PricesGiven, above, outpays, envyVerdict}
 
@@ -39,23 +41,13 @@ module _ {n i : ℕ} (t : ℕ → ℕ → Bool) (first : i ≡ firstOfPair n t) 
   envy-found below second = rw (← first, lt-ltb i n below, second)
 
 -- the answer goes by what the test says below n
-module _ (n : ℕ) {t u : ℕ → ℕ → Bool} (same : (i j : ℕ) → i < n → j < n → t i j ≡ u i j) where
-  pair-cong : firstOfPair n t ≡ firstOfPair n u
-  unfolding firstOfPair
-  pair-cong = first-cong n (λ i l. any-cong n (λ j k. same i j l k))
-
-  second-cong : firstOfPair n t < n → secondOfPair n t ≡ secondOfPair n u
-  unfolding secondOfPair
-  second-cong l =
-      first-cong n (λ j k. same (firstOfPair n t) j l k)
-      ∙ ap (λ i. firstBelow n (λ j. u i j)) pair-cong
-
-  verdict-cong : envyVerdict n t ≡ envyVerdict n u
-  unfolding envyVerdict
-  verdict-cong =
-      cond-cong (ap (λ i. ltb i n) pair-cong)
-      (λ h. ap₂ (λ i j. priceEnvy (i + 1) (j + 1)) pair-cong (second-cong (rw pair-cong (ltb-true (firstOfPair n u) n h))))
-      (λ _. refl)
+verdict-cong : (n : ℕ) {t u : ℕ → ℕ → Bool} → ((i j : ℕ) → i < n → j < n → t i j ≡ u i j) → envyVerdict n t ≡ envyVerdict n u
+unfolding envyVerdict
+verdict-cong n {t} {u} same =
+    let first : firstOfPair n t ≡ firstOfPair n u = pair-cong n same in
+    cond-cong (ap (λ i. ltb i n) first)
+    (λ h. ap₂ (λ i j. priceEnvy (i + 1) (j + 1)) first (second-cong n same (rw first (ltb-true (firstOfPair n u) n h))))
+    (λ _. refl)
 
 -- the lists stand for the definitions
 pub above-is : {owners prices sums ups : List ℕ} {n : ℕ} → n ≤ maxAgents → Summed n owners prices sums ups → envyVerdict n (above ups sums) ≡ envyVerdict n (outpays (length owners) (ownerOf owners) (priceOf prices))
@@ -88,8 +80,8 @@ module _ (I : Instance) (x p : ℕ → ℕ) where
 -- the answer, turned down or not
 module _ (s owners prices : List ℕ) where
   pub check-refused : {r : ℕ} → r ≡ priceRefusal s owners prices → (r ≡ 0 → ⊥) → refused r ≡ priceCheck s owners prices
-  unfolding priceCheck unlessRefused
-  check-refused {r} e h = rw (← e, ne-eqb r 0 h)
+  unfolding priceCheck
+  check-refused e h = refused-told _ e h
 
   module _ {n m c : ℕ} (fine : priceRefusal s owners prices ≡ 0) (g : PricesGiven s owners prices n m) (first : c ≡ firstOffPrice (asMarked s) (ownerOf owners) (priceOf prices)) where
     pub check-off : c < m → offPrice (c + 1) ≡ priceCheck s owners prices

@@ -4,18 +4,17 @@ use Prim.Native.Nat.{ℕ, _<_}
 use mathlib.Core.Bool.{true, false}
 use mathlib.Core.List.{List}
 use mathlib.Core.Path.{_≡_}
-use native.Mathlib.Omega.{arith}
 use Rattle.model.specs.Instance.{ownerOf, priceOf}
 use Rattle.model.specs.Sheet.{agentsOf, choresOf, asMarked}
 use Rattle.model.specs.Fairness.{ef1, isAllocation, dominates, dominated}
 use Rattle.model.specs.Slack.{evenUpTo}
 use Rattle.model.specs.Refusals.{sheetRefusal, ownersRefusal, pricesRefusal, _orElse_, priceRefusal, listRefusal}
-use Rattle.model.specs.Replies.{refused, accepted}
+use Rattle.model.specs.Replies.{accepted}
 use Rattle.model.specs.Verdicts.{unlessRefused, priceVerdict, listCheck, priceCheck}
 use Rattle.model.specs.Promises.{HoldsFromOne}
 use Rattle.welfare.proofs.Costs.{marked-weighted}
 use Rattle.welfare.proofs.Slack.{even-from-one}
-use Rattle.welfare.proofs.Answered.{not-refused}
+use Rattle.welfare.proofs.Answered.{not-refused, not-accepted}
 use Rattle.welfare.proofs.Accepted.{Bought, bought-efficient, bought-even}
 use Rattle.welfare.proofs.PriceVerdict.{Priced, accepted-elim, accepted-intro}
 use Rattle.welfare.proofs.ListVerdict.{verdict-holds}
@@ -31,13 +30,10 @@ pub record AcceptedList (s owners prices : List ℕ) : Type 0 where
   pub prices-fit : pricesRefusal (choresOf s) prices ≡ 0
   pub priced : Priced (asMarked s) (ownerOf owners) (priceOf prices)
 
-refused-other : (k : ℕ) → refused k ≡ accepted → ⊥
-refused-other k e = let z : _≡_ {A = ℕ} 0 1 = cc in omega arith
-
 pub accepted-list : (s owners prices : List ℕ) → priceCheck s owners prices ≡ accepted → AcceptedList s owners prices
 unfolding priceCheck priceRefusal
 accepted-list s owners prices e =
-    let both = not-refused (priceRefusal s owners prices) (priceVerdict (asMarked s) (ownerOf owners) (priceOf prices)) refused-other e in
+    let both = not-refused (priceRefusal s owners prices) (priceVerdict (asMarked s) (ownerOf owners) (priceOf prices)) not-accepted e in
     let one = or-else-zero (sheetRefusal s) (ownersRefusal (agentsOf s) (choresOf s) owners orElse pricesRefusal (choresOf s) prices) (both .0) in
     let two = or-else-zero (ownersRefusal (agentsOf s) (choresOf s) owners) (pricesRefusal (choresOf s) prices) (one .1) in
     record {

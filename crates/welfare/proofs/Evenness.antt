@@ -7,9 +7,9 @@ use native.Mathlib.Omega.{arith}
 use lib.Dec.{leb}
 use borrow.Author.Tests.{leb-true, le-leb, not-true}
 use Rattle.finite.specs.Sums.{maxWhere}
-use Rattle.finite.specs.Search.{anyBelow, allBelow}
+use Rattle.finite.specs.Search.{anyBelow}
 use Rattle.finite.proofs.Tests.{by-test, not-on, and-elim, and-intro, or-cases, or-left, or-right}
-use Rattle.finite.proofs.Search.{any-elim, any-intro, any-none, all-intro}
+use Rattle.finite.proofs.Search.{any-elim, any-intro, any-none, pairs-intro}
 use Rattle.finite.proofs.Where.{where-none, where-off}
 use Rattle.finite.proofs.Extremes.{peak-attained, peak-above}
 use Rattle.model.specs.Instance.{Instance, cost}
@@ -64,5 +64,4 @@ module _ (I : Instance) (x : ℕ → ℕ) where
 
   pub ef1-intro : ((i j : ℕ) → i < I .n → j < I .n → fair I x i j ≡ true) → ef1 I x ≡ true
   unfolding ef1
-  ef1-intro all =
-      all-intro (I .n) (λ i. allBelow (I .n) (λ j. fair I x i j)) λ i l. all-intro (I .n) (λ j. fair I x i j) (λ j. all i j l)
+  ef1-intro = pairs-intro (I .n) (fair I x)

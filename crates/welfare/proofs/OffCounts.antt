@@ -3,7 +3,7 @@
 use Prim.Native.Nat.{ℕ, zero, suc, _+_, _*_, _-_, _≤_, _<_, min}
 use mathlib.Core.Bool.{Bool, false, not, _&&_}
 use mathlib.Core.Path.{_≡_, refl, sym, ap, ap₂, _∙_}
-use native.Mathlib.Nat.{add-mul, mul-add}
+use native.Mathlib.Nat.{add-mul}
 use native.Mathlib.Numerals.{unary-clauses}
 use native.Mathlib.Omega.{arith}
 use borrow.Author.Tests.{not-true}
@@ -24,9 +24,6 @@ use Rattle.welfare.proofs.Slack.{count-left}
 parts : (p q : ℕ) {r : ℕ} (w : ℕ) → p + q ≡ r → p * w + q * w ≡ r * w
 parts p q w e = sym (add-mul p q w) ∙ ap (λ k. k * w) e
 
-mul-parts : (p q : ℕ) {r : ℕ} (k : ℕ) → p + q ≡ r → k * p + k * q ≡ k * r
-mul-parts p q k e = sym (mul-add k p q) ∙ ap (λ w. k * w) e
-
 module _ (I : Instance) (i : ℕ) where
   -- how many of the chores that are left are difficult for agent i
   abbrev pub difficultOf : (ℕ → Bool) → ℕ
@@ -41,7 +38,7 @@ module _ (I : Instance) (i : ℕ) where
         let difficult : ℕ → Bool = λ c. left c && not (I .easy i c) in
         let at-a = where-value m easy (λ c _ p. cost-easy I i c (and-elim (left c) (I .easy i c) p .1)) ∙ where-const m (I .a) easy in
         let at-b = where-value m difficult (λ c _ p. cost-difficult I i c (not-true _ (and-elim (left c) (not (I .easy i c)) p .1))) ∙ where-const m (I .b) difficult in
-        let more = mul-parts (I .a) (I .b - I .a) {r = I .b} (countTo m difficult) (omega arith) in
+        let more = parts (I .a) (I .b - I .a) {r = I .b} (countTo m difficult) (omega arith) in
         let all = parts (countTo m easy) (countTo m difficult) {r = countTo m left} (I .a) (sym (count-split m left (I .easy i))) in
         omega (arith, where-split m left (I .easy i) (cost I i), at-a, at-b, more, all)
 

@@ -10,7 +10,7 @@ use lib.Dec.{eqb, leb, ltb}
 use borrow.Author.Tests.{not-true}
 use Rattle.finite.specs.Sums.{sumWhere}
 use Rattle.finite.proofs.Tests.{by-test, or-right, leb-scaled, ltb-scaled}
-use Rattle.finite.proofs.Search.{any-cong, all-elim, all-cong}
+use Rattle.finite.proofs.Search.{any-cong, all-elim, all-cong, pairs-cong}
 use Rattle.finite.proofs.Where.{where-test, where-scale-eq}
 use Rattle.finite.proofs.Chosen.{chosen-cong}
 use Rattle.finite.proofs.Lists.{list-cong}
@@ -129,7 +129,7 @@ module _ {s : List ℕ} (v : Valid s) where
 
   even-same : (t : ℕ) (x : ℕ → ℕ) → evenUpTo t (asMarked s) x ≡ evenUpTo t (asRead s) x
   unfolding evenUpTo asMarked asRead
-  even-same t x = all-cong (agentsOf s) (λ i _. all-cong (agentsOf s) (λ j _. fair-same i t x j))
+  even-same t x = pairs-cong (agentsOf s) (λ i j. fair-same i t x j)
 
   ef1-same : (x : ℕ → ℕ) → ef1 (asMarked s) x ≡ ef1 (asRead s) x
   ef1-same x = sym (even-one (asMarked s) x) ∙ even-same 1 x ∙ even-one (asRead s) x

@@ -9,31 +9,31 @@ use native.Mathlib.Omega.{arith}
 use lib.Dec.{leb}
 use borrow.Author.Tests.{leb-true, le-leb, not-true}
 use Rattle.finite.specs.Sums.{maxWhere, countTo}
-use Rattle.finite.specs.Search.{anyBelow, allBelow, firstBelow}
 use Rattle.finite.proofs.Tests.{clash, bool-eq, not-yes}
 use Rattle.finite.proofs.Below.{by-less}
-use Rattle.finite.proofs.Search.{any-elim, any-intro, any-cong, all-elim, all-intro, all-cong, first-cong}
+use Rattle.finite.proofs.Search.{any-elim, any-intro, pairs-elim, pairs-intro, pairs-cong, first-cong}
 use Rattle.finite.proofs.Where.{where-none}
 use Rattle.finite.proofs.Counts.{count-empty}
 use Rattle.model.specs.Instance.{Instance, cost}
 use Rattle.model.specs.Fairness.{bundleSize, total, costTo, fair, ef1}
 use Rattle.model.specs.Slack.{leftAfter, restCost, fairUpTo, evenUpTo, envyFree}
 use Rattle.model.specs.Verdicts.{envies, firstOfPair, secondOfPair, listVerdict}
+use Rattle.model.proofs.Pairs.{pair-cong}
 use Rattle.welfare.specs.Slack.{verdictToday, SlackLaws}
 use Rattle.welfare.proofs.Evenness.{fair-elim, fair-intro}
 use Rattle.welfare.proofs.TakenOff.{taken-cost, taken-count}
 
 module _ (I : Instance) (x : ℕ → ℕ) (i : ℕ) where
-  pub rest-none : restCost 0 I x i ≡ costTo I x i i
+  rest-none : restCost 0 I x i ≡ costTo I x i i
   unfolding restCost leftAfter costTo total
   rest-none = refl
 
-  pub rest-next : (k : ℕ) → restCost (suc k) I x i + maxWhere (I .m) (leftAfter k I x i) (cost I i) ≡ restCost k I x i
+  rest-next : (k : ℕ) → restCost (suc k) I x i + maxWhere (I .m) (leftAfter k I x i) (cost I i) ≡ restCost k I x i
   unfolding restCost leftAfter
   rest-next k = taken-cost I i (leftAfter k I x i)
 
   -- the more is taken off, the less is left
-  pub rest-falls : (k l : ℕ) → k ≤ l → restCost l I x i ≤ restCost k I x i
+  rest-falls : (k l : ℕ) → k ≤ l → restCost l I x i ≤ restCost k I x i
   rest-falls k zero h = let e : k ≡ 0 = omega arith in rw e (le-refl _)
   rest-falls k (suc l) h =
       by-less l k
@@ -65,7 +65,7 @@ module _ (I : Instance) (x : ℕ → ℕ) (i : ℕ) where
         le-leb _ _ (le-trans (rest-falls (r .index) t (omega (arith, r .below))) (leb-true _ _ (r .passes))))
         (λ e. any-intro enough t (omega arith) e)
 
-    pub slack-intro : (t : ℕ) → restCost t I x i ≤ costTo I x i j → fairUpTo t I x i j ≡ true
+    slack-intro : (t : ℕ) → restCost t I x i ≤ costTo I x i j → fairUpTo t I x i j ≡ true
     slack-intro t h = slack-test t ∙ le-leb _ _ h
 
     slack-elim : (t : ℕ) → fairUpTo t I x i j ≡ true → restCost t I x i ≤ costTo I x i j
@@ -95,15 +95,13 @@ slack-self I x t i = slack-intro I x i i t (rest-part I x i t)
 -- whole lists
 
 module _ (I : Instance) (x : ℕ → ℕ) (t : ℕ) where
-  pub even-elim : evenUpTo t I x ≡ true → (i j : ℕ) → i < I .n → j < I .n → fairUpTo t I x i j ≡ true
+  even-elim : evenUpTo t I x ≡ true → (i j : ℕ) → i < I .n → j < I .n → fairUpTo t I x i j ≡ true
   unfolding evenUpTo
-  even-elim e i j l k =
-      all-elim (I .n) (λ j. fairUpTo t I x i j) (all-elim (I .n) (λ i. allBelow (I .n) (λ j. fairUpTo t I x i j)) e i l) j k
+  even-elim = pairs-elim (I .n) (fairUpTo t I x)
 
   pub even-intro : ((i j : ℕ) → i < I .n → j < I .n → fairUpTo t I x i j ≡ true) → evenUpTo t I x ≡ true
   unfolding evenUpTo
-  even-intro all =
-      all-intro (I .n) (λ i. allBelow (I .n) (λ j. fairUpTo t I x i j)) λ i l. all-intro (I .n) (λ j. fairUpTo t I x i j) (λ j. all i j l)
+  even-intro = pairs-intro (I .n) (fairUpTo t I x)
 
   -- a pair that envies shows that the list is not even
   pub uneven : (i j : ℕ) → i < I .n → j < I .n → envies t I x i j ≡ true → evenUpTo t I x ≡ false
@@ -111,20 +109,20 @@ module _ (I : Instance) (x : ℕ → ℕ) (t : ℕ) where
   uneven i j l k h = not-yes _ (λ e. clash (even-elim e i j l k) (not-true _ h))
 
 module _ (I : Instance) (x : ℕ → ℕ) where
-  pub even-none : evenUpTo 0 I x ≡ envyFree I x
+  even-none : evenUpTo 0 I x ≡ envyFree I x
   unfolding evenUpTo envyFree
-  even-none = all-cong (I .n) (λ i _. all-cong (I .n) (λ j _. slack-whole I x i j))
+  even-none = pairs-cong (I .n) (slack-whole I x)
 
   pub even-one : evenUpTo 1 I x ≡ ef1 I x
   unfolding evenUpTo ef1
-  even-one = all-cong (I .n) (λ i _. all-cong (I .n) (λ j _. slack-today I x i j))
+  even-one = pairs-cong (I .n) (slack-today I x)
 
   verdict-one : listVerdict 1 I x ≡ verdictToday I x
-  unfolding listVerdict verdictToday envies firstOfPair secondOfPair
+  unfolding listVerdict verdictToday envies secondOfPair
   verdict-one =
       let same : (i j : ℕ) → not (fairUpTo 1 I x i j) ≡ not (fair I x i j) = λ i j. ap not (slack-today I x i j) in
-      let i = firstBelow (I .n) (λ i. anyBelow (I .n) (λ j. not (fair I x i j))) in
-      let first = first-cong (I .n) (λ i _. any-cong (I .n) (λ j _. same i j)) in
+      let i = firstOfPair (I .n) (λ i j. not (fair I x i j)) in
+      let first = pair-cong (I .n) (λ i j _ _. same i j) in
       let second = first-cong (I .n) (λ j _. same i j) in
       rw (even-one, first, second)
 

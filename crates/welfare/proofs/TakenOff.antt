@@ -57,7 +57,7 @@ module _ (I : Instance) (i : ℕ) (left : ℕ → Bool) where
   -- where nothing is left, nothing is taken off
 
   module _ (none : (c : ℕ) → c < I .m → left c ≡ false) where
-    pub none-without : (c : ℕ) → c < I .m → withoutCostliest I i left c ≡ false
+    none-without : (c : ℕ) → c < I .m → withoutCostliest I i left c ≡ false
     unfolding withoutCostliest
     none-without c l = and-no-left (not (eqb c (costliest I i left))) (none c l)
 

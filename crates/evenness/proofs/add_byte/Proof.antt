@@ -10,7 +10,7 @@ use Rattle.model.specs.Limits.{maxAgents}
 use Rattle.model.specs.Instance.{cost, ownerOf}
 use Rattle.model.specs.Sheet.{asMarked}
 use Rattle.model.specs.Fairness.{owns, total}
-use Rattle.given.specs.Given.{Cost}
+use Rattle.given.proofs.Costs.{cost-fits}
 use Rattle.given.proofs.Given.{given-few, owner-below, given-owned}
 use Rattle.evenness.proofs.Sums.{sums-fit}
 use Rattle.evenness.proofs.Bytes.{byte-row, byte-below, byte-marked, byte-cost}
@@ -40,7 +40,7 @@ entry c =
     omega (arith, c .owner .ensures .is, owner-below g _ (chore turn), given-few g)
 
 -- what was read of the byte is the chore's cost
-costed : (c : tie.After-mark-cost Inv-loop μ-loop) → Cost (cost (asMarked (start (c .before .before .before .before .before) .args .sheet .now)) (start (c .before .before .before .before .before) .args .i) (start (c .before .before .before .before .before) .args .first + c .before .before .before .before .loop .j)) (c .mark-cost .result)
+costed : (c : tie.After-mark-cost Inv-loop μ-loop) → let at = start (c .before .before .before .before .before) .args in c .mark-cost .result ≡ cost (asMarked (at .sheet .now)) (at .i) (at .first + c .before .before .before .before .loop .j)
 costed c =
     let turn = c .before .before .before in
     let byte = turn .before .before in
@@ -77,7 +77,10 @@ add-sums : tie.Need-add-sums Inv-loop μ-loop
 add-sums c =
     let read = c .before .before .before in
     let turn = read .before in
-    omega (arith, sums-fit (start (turn .before .before) .pre .0 .given) _ (chore turn) (turn .before .loop .inv .1) _ (entry read), costed (c .before) .fits)
+    let loop = turn .before .loop in
+    let at = start (turn .before .before) in
+    let A = at .pre .0 in
+    omega (arith, sums-fit (A .given) _ (chore turn) (loop .inv .1) _ (entry read), costed (c .before), cost-fits (A .weighed) (at .args .i) (at .args .first + loop .j))
 
 element-write-sums : tie.Need-element-write-sums Inv-loop μ-loop
 element-write-sums c = omega (arith, entry (c .before .before .before))
@@ -96,7 +99,7 @@ loop-again c =
     let loop = turn .before .loop in
     let first = start (turn .before .before) .args .first in
     let on : first + loop .j + 1 ≡ first + (loop .j + 1) = omega arith in
-    (omega arith, rw (← on) (sums-next _ _ (sym (read .owner .ensures .is)) (loop .inv .1) (entry read) (rw (costed (c .before) .is))))
+    (omega arith, rw (← on) (sums-next _ _ (sym (read .owner .ensures .is)) (loop .inv .1) (entry read) (rw (costed (c .before)))))
 
 returns : tie.Need-returns Inv-loop μ-loop
 returns c =
