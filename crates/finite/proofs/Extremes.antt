@@ -158,7 +158,7 @@ low-keep f l h = low-next f l ∙ min-eq-left h
 pub low-drop : {k : ℕ} (f : ℕ → ℕ) → 0 < k → f k ≤ minTo k f → minTo (k + 1) f ≡ f k
 low-drop f l h = low-next f l ∙ min-eq-right h
 
-low-under : {n : ℕ} (f : ℕ → ℕ) (i : ℕ) → i < n → minTo n f ≤ f i
+pub low-under : {n : ℕ} (f : ℕ → ℕ) (i : ℕ) → i < n → minTo n f ≤ f i
 unfolding minTo
 low-under {n = zero} f i l = none-below l
 low-under {n = suc zero} f i l = let e : i ≡ 0 = omega arith in rw e (le-refl _)

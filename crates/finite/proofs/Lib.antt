@@ -7,10 +7,12 @@ pub mod Counts
 pub mod Fibres
 pub mod Moves
 pub mod Lists
+pub mod LeastList
 pub mod Passing
 pub mod Rewriting
 pub mod Extremes
 pub mod Sweeps
+pub mod Filled
 pub mod Chosen
 pub mod Running
 pub mod Reach

@@ -25,7 +25,7 @@ table-zeros {n} z e =
     }
 
 -- one entry stored: the others are as they were
-table-set : {n o v : ℕ} {f g : ℕ → ℕ} {xs : List ℕ} → Table n f xs → o < n → v ≡ g o → ((i : ℕ) → (i ≡ o → ⊥) → g i ≡ f i) → Table n g (set xs o v)
+pub table-set : {n o v : ℕ} {f g : ℕ → ℕ} {xs : List ℕ} → Table n f xs → o < n → v ≡ g o → ((i : ℕ) → (i ≡ o → ⊥) → g i ≡ f i) → Table n g (set xs o v)
 table-set {n} {o} {v} {xs = xs} t l here others =
     record {
       size = length-set xs o v ∙ t .size;

@@ -4,6 +4,7 @@ use mathlib.Core.Bool.{Bool, cond}
 use mathlib.Core.List.{List, [], _∷_, _++_}
 use mathlib.Core.Path.{_≡_}
 use lib.ListN.{length, getD}
+use Rattle.finite.specs.Sums.{minTo}
 use Rattle.finite.specs.Search.{anyBelow}
 
 -- f 0, .., f (n - 1)
@@ -31,6 +32,11 @@ pub record Picks (n m : ℕ) (y : List ℕ) : Type 0 where
 unfoldable pub someList : ℕ → ℕ → (List ℕ → Bool) → Bool
 someList n zero t = t []
 someList n (suc m) t = anyBelow n (λ i. someList n m (λ y. t (suc i ∷ y)))
+
+-- the least f over all lists of m numbers from 1 to n
+unfoldable pub leastList : ℕ → ℕ → (List ℕ → ℕ) → ℕ
+leastList n zero f = f []
+leastList n (suc m) f = minTo n (λ i. leastList n m (λ y. f (suc i ∷ y)))
 
 -- the two bytes at i, high byte first, as a number
 unfoldable pub wordAt : List ℕ → ℕ → ℕ

@@ -5,6 +5,7 @@ pub mod Strands
 pub mod Contents
 pub mod Fairness
 pub mod Slack
+pub mod MaximinShare
 pub mod Prices
 pub mod Step2a
 pub mod Step2b

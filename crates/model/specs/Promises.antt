@@ -5,11 +5,12 @@ use mathlib.Core.Bool.{true, false, cond}
 use mathlib.Core.List.{List, [], _++_}
 use mathlib.Core.Path.{_≡_}
 use lib.Dec.{eqb}
-use lib.ListN.{length, take, drop, replicate}
+use lib.ListN.{length, getD, take, drop, replicate}
 use Rattle.model.specs.declared.ShareOut.{ShareOut}
 use Rattle.model.specs.declared.Join.{Join}
 use Rattle.model.specs.declared.ListVerdict.{ListVerdict}
 use Rattle.model.specs.declared.PriceVerdict.{PriceVerdict}
+use Rattle.model.specs.declared.Measures.{Measures}
 use Rattle.model.specs.declared.BookResult.{BookResult}
 use Rattle.model.specs.Limits.{maxSlack}
 use Rattle.model.specs.Instance.{Instance, ownerOf}
@@ -18,9 +19,10 @@ use Rattle.model.specs.Strands.{joinedSheet, strandMarks, OnJoined}
 use Rattle.model.specs.Contents.{sheetCount, sheetOf}
 use Rattle.model.specs.Fairness.{ef1, dominates, isAllocation}
 use Rattle.model.specs.Slack.{evenUpTo}
+use Rattle.model.specs.MaximinShare.{isPartition, bundleCost, costliestBundle, dealt, measuresOf}
 use Rattle.model.specs.Algorithm.{State, lacking, opening, after, Ends}
 use Rattle.model.specs.Record.{Move, movesIn, moveSize, recordOf, moveIn, played, Hands, moveAt}
-use Rattle.model.specs.Refusals.{sheetRefusal, allocateRefusal, recordedRefusal, joinRefusal, showRefusal, lookupRefusal, bookRefusal}
+use Rattle.model.specs.Refusals.{sheetRefusal, allocateRefusal, recordedRefusal, joinRefusal, showRefusal, measuresRefusal, lookupRefusal, bookRefusal}
 use Rattle.model.specs.Replies.{Reply, refused, shared, joined, absent, holds, wasteful, accepted, shareOutReply, joinReply, listReply, priceReply, replyAt}
 use Rattle.model.specs.Verdicts.{unlessRefused, listCheck, priceCheck}
 use Rattle.model.specs.MostMoves.{roundMoves, mostMoves}
@@ -176,6 +178,26 @@ pub record MarksShown (first second : List ℕ) (person chore refusal : ℕ) (ma
   pub part : marks ≡ shownMarks first second person chore
   -- they are the joined sheet's marks of that person for that strand
   pub onJoined : refusal ≡ 0 → OnJoined first second person chore marks
+
+-- The number v for agent i, by the partitions of an instance.
+pub record Secured (I : Instance) (i v : ℕ) : Type 0 where
+  -- "no split does better"
+  pub least : (y : List ℕ) → isPartition I y ≡ true → v ≤ costliestBundle I i y
+  -- dealing makes a split,
+  pub partition : isPartition I (dealt I i) ≡ true
+  -- and "each pile dealt costs at most the number returned"
+  pub within : (k : ℕ) → k < I .n → bundleCost I i (dealt I i) k ≤ v
+
+-- The numbers of the n agents over the first entries of a list; where that is refused the list stays.
+unfoldable pub measuresOver : List ℕ → List ℕ → List ℕ
+measuresOver s before = cond (eqb (measuresRefusal s) 0) (measuresOf s ++ drop (agentsOf s) before) before
+
+-- Everyone's own measure, written over the entries of a list. It is for `measures(sheet)`, which "writes nothing that is lent", a list of zeros:
+-- 0 stands in the entries after the last agent's, and in all of them with a refusal.
+pub record Measured (s before : List ℕ) (r : Measures) : Type 0 where
+  pub answer : r .refusal ≡ measuresRefusal s
+  pub numbers : r .numbers ≡ measuresOver s before
+  pub secured : r .refusal ≡ 0 → (i : ℕ) → i < agentsOf s → Secured (asMarked s) i (getD (r .numbers) i 0)
 
 -- The part of the book that a lookup hands back: "its bytes are handed back as that stretch of the book", and no bytes where it is refused,
 -- since "the number is all that is returned".

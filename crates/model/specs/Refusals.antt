@@ -1,5 +1,5 @@
 -- Document 01, "Numbers for what is turned down", and document 02: the number of each call's refusal, 0 where it is not turned down.
-use Prim.Native.Nat.{ℕ, _+_, _*_, _-_}
+use Prim.Native.Nat.{ℕ, _+_, _*_, _-_, _%_}
 use mathlib.Core.Bool.{Bool, cond, not, _||_}
 use mathlib.Core.List.{List}
 use lib.Dec.{eqb, leb, ltb}
@@ -131,6 +131,16 @@ showRefusal first second person chore =
     strandsRefusal first second
     orElse 9 when outOfRange (agentsOf first) person
     orElse 9 when outOfRange (joinedChores first second) chore
+
+-- 14: "A sheet whose b isn't a multiple of a"
+unfoldable pub multipleRefusal : ℕ → ℕ → ℕ
+multipleRefusal a b = 14 when not (eqb (b % a) 0)
+
+-- everyone's own measure: 14 comes "after the sheet's own checks"
+unfoldable pub measuresRefusal : List ℕ → ℕ
+measuresRefusal s =
+    sheetRefusal s
+    orElse multipleRefusal (easyWeight s) (difficultWeight s)
 
 -- 9: "a book of no bytes or over 65,535, k out of range, or contents against the book's rule"
 unfoldable pub contentsRefusal : List ℕ → ℕ

@@ -52,6 +52,12 @@ pub struct Shown<'a> {
     pub marks: &'a [u8],
 }
 
+// Everyone's own measure: a refusal number, or 0 and the numbers of the agents, in their order.
+pub struct Measures {
+    pub refusal: u8,
+    pub numbers: [u32; MAX_AGENTS],
+}
+
 // The running tally of moves and cuts.
 pub struct Tally {
     pub moves: u64,

@@ -1,0 +1,94 @@
+-- Chores of one cost w, dealt to n bundles, leave each bundle at most L, where all costs and L are multiples of w and n bundles of L have room
+-- for them. Of the cheapest bundle it is used only that n times its cost is at most the sum.
+-- Assumes nothing.
+use Prim.Native.Nat.{ℕ, zero, suc, _+_, _*_, _-_, _≤_, _<_, _∣_}
+use mathlib.Core.Bool.{true}
+use mathlib.Core.List.{List}
+use mathlib.Core.Path.{_≡_, refl, sym, _∙_}
+use native.Mathlib.Nat.{le-refl, mul-suc, lt-of-mul-lt-mul-left, dvd-refl, dvd-add, dvd-sub, le-of-dvd}
+use native.Mathlib.Omega.{arith}
+use lib.ListN.{length, getD, length-set}
+use lib.Seq.{getD-set-same, getD-set-other}
+use Rattle.finite.specs.Sums.{sumTo}
+use Rattle.finite.specs.Search.{chosen}
+use Rattle.finite.proofs.Below.{by-same}
+use Rattle.finite.proofs.Sums.{sum-const, sum-mono, sum-change}
+use Rattle.finite.proofs.Chosen.{smaller, smaller-order, chosen-found, smallest-le}
+use Rattle.finite.proofs.Running.{chosen-some}
+use Rattle.measures.specs.Dealing.{cheapest, addedTo, dealtOne, dealtOn}
+
+-- what n bundles cost together
+abbrev pub inAll : ℕ → List ℕ → ℕ
+inAll n costs = sumTo n (λ k. getD costs k 0)
+
+-- each of n bundles costs a multiple of w that is at most L
+pub record Level (n w L : ℕ) (costs : List ℕ) : Type 0 where
+  pub room : n ≤ length costs
+  pub most : (k : ℕ) → k < n → getD costs k 0 ≤ L
+  pub multiple : (k : ℕ) → k < n → w ∣ getD costs k 0
+
+-- the cheapest of n bundles, where there is one
+module _ {n : ℕ} (costs : List ℕ) (some : 0 < n) where
+  pub cheapest-below : cheapest n costs < n
+  unfolding cheapest
+  cheapest-below = chosen-some (smaller-order (λ k. getD costs k 0)) n (λ k. true) 0 some refl
+
+  pub cheapest-least : (k : ℕ) → k < n → getD costs (cheapest n costs) 0 ≤ getD costs k 0
+  unfolding cheapest
+  cheapest-least k l =
+      smallest-le (λ k. getD costs k 0) (chosen-found n (λ k. true) (smaller (λ k. getD costs k 0)) cheapest-below) k l refl
+
+  cheapest-in-all : n * getD costs (cheapest n costs) 0 ≤ inAll n costs
+  cheapest-in-all = rw (← sum-const n (getD costs (cheapest n costs) 0)) (sum-mono n cheapest-least)
+
+-- one chore dealt
+module _ {n w L : ℕ} {costs : List ℕ} (some : 0 < n) (positive : 0 < w) (top : w ∣ L) (level : Level n w L costs) (fits : inAll n costs + w ≤ n * L) where
+  least-fits : getD costs (cheapest n costs) 0 + w ≤ L
+  least-fits =
+      let v = getD costs (cheapest n costs) 0 in
+      let less : v < L = lt-of-mul-lt-mul-left n (omega (arith, cheapest-in-all costs some)) in
+      let gap : w ≤ L - v = le-of-dvd (omega arith) (dvd-sub w top (level .multiple (cheapest n costs) (cheapest-below costs some))) in
+      omega arith
+
+  one-more : Level n w L (dealtOne n w costs)
+  unfolding dealtOne addedTo
+  one-more =
+      let v = cheapest n costs in
+      let below : v < n = cheapest-below costs some in
+      let there : v < length costs = omega (arith, level .room) in
+      record {
+        room = simp length-set (level .room);
+        most = λ k l.
+            by-same k v (λ e. rw (e, getD-set-same costs v (getD costs v 0 + w) 0 there) least-fits)
+            (λ ne. rw (getD-set-other costs v k (getD costs v 0 + w) 0 ne) (level .most k l));
+        multiple = λ k l.
+            by-same k v
+            (λ e. rw (e, getD-set-same costs v (getD costs v 0 + w) 0 there) (dvd-add w (level .multiple v below) (dvd-refl w)))
+            (λ ne. rw (getD-set-other costs v k (getD costs v 0 + w) 0 ne) (level .multiple k l));
+      }
+
+-- what they cost together grows by w
+one-in-all : {n : ℕ} (w : ℕ) (costs : List ℕ) → 0 < n → n ≤ length costs → inAll n (dealtOne n w costs) ≡ inAll n costs + w
+unfolding dealtOne addedTo
+one-in-all {n} w costs some room =
+    let v = cheapest n costs in
+    let below : v < n = cheapest-below costs some in
+    let there : v < length costs = omega arith in
+    let new = getD-set-same costs v (getD costs v 0 + w) 0 there in
+    omega (arith, new, sum-change {n = n} {f = λ k. getD (dealtOne n w costs) k 0} {g = λ k. getD costs k 0} v below (λ k l ne. getD-set-other costs v k (getD costs v 0 + w) 0 ne))
+
+-- so many chores dealt, one after the other
+pub record Dealt (n w L : ℕ) (costs : List ℕ) (count : ℕ) : Type 0 where
+  pub level : Level n w L (dealtOn n w count costs)
+  pub together : inAll n (dealtOn n w count costs) ≡ inAll n costs + w * count
+
+pub dealt-level : {n w L : ℕ} {costs : List ℕ} → 0 < n → 0 < w → w ∣ L → Level n w L costs → (count : ℕ) → inAll n costs + w * count ≤ n * L → Dealt n w L costs count
+unfolding dealtOn
+dealt-level {n} {w} {L} {costs} some positive top level zero fits = record { level = level; together = omega arith }
+dealt-level {n} {w} {L} {costs} some positive top level (suc k) fits =
+    let more : w * suc k ≡ w * k + w = mul-suc w k in
+    let before = dealt-level some positive top level k (omega arith) in
+    record {
+      level = one-more some positive top (before .level) (omega (arith, before .together));
+      together = omega (arith, one-in-all w (dealtOn n w k costs) some (before .level .room), before .together);
+    }
