@@ -1,7 +1,7 @@
 // The C interface: the calls on byte slices and numbers. A price takes four bytes, high byte first.
 // Each export is one call of a function with the same promise in a crate below.
 
-ghost use Rattle.cmodel.specs.Promises.{AllocatedInC, RecordedInC, ListCheckedInC, PricesCheckedInC, FoundInC, BookAllocatedInC, JoinedInC, ShownInC};
+ghost use Rattle.cmodel.specs.Promises.{AllocatedInC, RecordedInC, ListCheckedInC, PricesCheckedInC, FoundInC, BookAllocatedInC, JoinedInC, ShownInC, MeasuredInC};
 
 #[no_mangle]
 pub extern "C" fn shares_allocate(
@@ -115,4 +115,11 @@ pub extern "C" fn shares_show_marks<'a>(
     ensures { λ r. ⌜ ShownInC (now (first .entry)) (now (second .entry)) person chore (now (strand .entry)) (now (start .entry)) (now (size .entry)) (now (strand .exit)) (now (start .exit)) (now (size .exit)) r ⌝ }
 {
     cstrands::show_marks(first, second, person, chore, strand, start, size)
+}
+
+#[no_mangle]
+pub extern "C" fn shares_measures(sheet: &[u8], measures: &mut [u32; model::MAX_AGENTS]) -> u8
+    ensures { λ r. ⌜ MeasuredInC (now (sheet .entry)) (now (measures .entry)) (now (measures .exit)) r ⌝ }
+{
+    cmeasures::measures(sheet, measures)
 }

@@ -1,5 +1,5 @@
 -- What each call promises to C. Plain names are what is handed in, primed ones the same memory when the call returns, r what is returned.
-use Prim.Native.Nat.{ℕ, _+_, _-_, _*_, _≤_}
+use Prim.Native.Nat.{ℕ, _+_, _-_, _*_, _≤_, _<_}
 use mathlib.Core.Bool.{cond, not}
 use mathlib.Core.List.{List, [], _∷_}
 use mathlib.Core.Path.{_≡_}
@@ -14,11 +14,11 @@ use Rattle.model.specs.Sheet.{agentsOf, choresOf, rowSize, rowStart, asMarked}
 use Rattle.model.specs.Strands.{joinedSheet, strandOf, strandSheet}
 use Rattle.model.specs.Contents.{sheetCount, sheetStart, sheetSize, sheetOf}
 use Rattle.model.specs.Record.{Move}
-use Rattle.model.specs.Refusals.{_orElse_, _when_, sheetRefusal, ownersRefusal, pricesRefusal, recordedRefusal, joinRefusal, showRefusal, lookupRefusal}
+use Rattle.model.specs.Refusals.{_orElse_, _when_, sheetRefusal, ownersRefusal, pricesRefusal, recordedRefusal, joinRefusal, showRefusal, measuresRefusal, lookupRefusal}
 use Rattle.model.specs.Replies.{Reply, holds, wasteful, accepted}
 use Rattle.model.specs.Verdicts.{unlessRefused, priceVerdict, listCheck}
 use Rattle.model.specs.Book.{firstEntry}
-use Rattle.model.specs.Promises.{HoldsFromOne, Dominating, Allocated, RunMoves, Written, joinedOver, MarksShown, entryAt, BookAllocated}
+use Rattle.model.specs.Promises.{HoldsFromOne, Dominating, Allocated, RunMoves, Written, joinedOver, MarksShown, Secured, measuresOver, entryAt, BookAllocated}
 use Rattle.pricebytes.specs.PriceBytes.{pricesIn, withPrices}
 use Rattle.cmodel.specs.Numbers.{verdictNumber, refusalAfter, movesAfter, cutsAfter, firstAfter, Told}
 
@@ -106,6 +106,12 @@ pub record ShownInC (first second : List ℕ) (person chore strand start size st
   -- "shown out of whichever of the two sheets holds the reel"
   pub inside : r ≡ 0 → start′ + size′ ≤ length (strandSheet first second chore)
   pub shown : r ≡ 0 → MarksShown first second person chore r (take size′ (drop start′ (strandSheet first second chore)))
+
+-- Everyone's own measure: the numbers of the n agents go into the first entries of a lent list, and with a refusal all of it keeps its content.
+pub record MeasuredInC (s lent lent′ : List ℕ) (r : ℕ) : Type 0 where
+  pub answer : r ≡ measuresRefusal s
+  pub atExit : lent′ ≡ measuresOver s lent
+  pub secured : r ≡ 0 → (i : ℕ) → i < agentsOf s → Secured (asMarked s) i (getD lent′ i 0)
 
 -- A whole book: `allocate_book(book, owners, prices, scratch)`. The price list has a fourth as many entries as bytes.
 pub record BookInBytes (book owners prices scratch owners′ prices′ scratch′ : List ℕ) (answer : BookResult) : Type 0 where
