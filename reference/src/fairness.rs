@@ -86,7 +86,7 @@ pub fn first_dominating(costs: &Costs, owner: &[usize]) -> Option<Vec<usize>> {
 }
 
 /// Counts on by one in base `agents`; false after the last allocation.
-fn advance(owner: &mut [usize], agents: usize) -> bool {
+pub fn advance(owner: &mut [usize], agents: usize) -> bool {
     for digit in owner.iter_mut().rev() {
         *digit += 1;
         if *digit < agents {

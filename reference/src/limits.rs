@@ -23,3 +23,5 @@ pub const BOOK_ENTRIES: usize = MAX_SHEETS * MAX_CHORES;
 pub const WHY_RECORD_BYTES: usize = 120_000;
 /// All allocations are tried for waste only where there are at most so many.
 pub const MAX_ALLOCATIONS_TRIED: usize = 2_000_000;
+/// All partitions are tried for a measure only where there are at most so many.
+pub const MAX_PARTITIONS_TRIED: usize = 4_096;

@@ -28,3 +28,5 @@ pub const RECORD: u8 = 11;
 pub const STRANDS: u8 = 12;
 /// A slack above the limit.
 pub const SLACK: u8 = 13;
+/// A difficult weight that is no multiple of the easy one.
+pub const MULTIPLE: u8 = 14;
