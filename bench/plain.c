@@ -1,6 +1,6 @@
-/* The share-out, the two checks and the join of two sheets as one would write
- * them in C: arrays, loops, no tricks. Nothing is proved of it; tests hold it to
- * the answers of the proved library.
+/* The share-out, the two checks, the join of two sheets and everyone's own
+ * measure as one would write them in C: arrays, loops, no tricks. Nothing is
+ * proved of it; tests hold it to the answers of the proved library.
  *
  * Agents and chores are counted from 0 here, and from 1 in lists and verdicts.
  */
@@ -224,14 +224,14 @@ typedef struct {
     uint64_t moves;
 } Run;
 
-/* The first of the agents who hold the fewest chores. */
-static size_t holder_of_fewest(const size_t *held, size_t agents)
+/* The place of the least number, the first of several. */
+static size_t first_least(const uint32_t *numbers, size_t count)
 {
-    size_t fewest = 0;
-    for (size_t i = 1; i < agents; i++)
-        if (held[i] < held[fewest])
-            fewest = i;
-    return fewest;
+    size_t least = 0;
+    for (size_t k = 1; k < count; k++)
+        if (numbers[k] < numbers[least])
+            least = k;
+    return least;
 }
 
 /* Each chore goes to the first agent who finds it easy, else to whoever holds
@@ -240,7 +240,7 @@ static size_t holder_of_fewest(const size_t *held, size_t agents)
 static void open_market(Market *market)
 {
     bool likes_none[SHARES_MAX_AGENTS];
-    size_t held[SHARES_MAX_AGENTS] = {0};
+    uint32_t held[SHARES_MAX_AGENTS] = {0};
     for (size_t i = 0; i < market->agents; i++)
         likes_none[i] = finds_none_easy(market, i);
     for (size_t c = 0; c < market->chores; c++) {
@@ -249,7 +249,7 @@ static void open_market(Market *market)
             i++;
         bool liked = i < market->agents;
         if (!liked)
-            i = holder_of_fewest(held, market->agents);
+            i = first_least(held, market->agents);
         held[i]++;
         market->owner[c] = (uint8_t)i;
         market->price[c] = (liked ? market->easy : market->difficult) * market->difficult;
@@ -633,5 +633,49 @@ uint8_t plain_join(const uint8_t *first, size_t first_len,
         row += row_bytes(chores);
     }
     *written = SHARES_SHEET_BYTES(one.agents, chores);
+    return SHARES_OK;
+}
+
+/* Everyone's own measure. */
+
+static size_t count_difficult(const Market *market, size_t agent)
+{
+    size_t count = 0;
+    for (size_t c = 0; c < market->chores; c++)
+        count += !finds_easy(market, agent, c);
+    return count;
+}
+
+/* Deals so many chores of one cost, each to the bundle that costs least so far. */
+static void deal(uint32_t *bundle, size_t bundles, size_t chores, uint32_t cost)
+{
+    for (size_t c = 0; c < chores; c++)
+        bundle[first_least(bundle, bundles)] += cost;
+}
+
+/* What the costliest bundle costs the agent, difficult chores dealt first. */
+static uint32_t measure(const Market *market, size_t agent)
+{
+    uint32_t bundle[SHARES_MAX_AGENTS] = {0};
+    size_t difficult = count_difficult(market, agent);
+    deal(bundle, market->agents, difficult, market->difficult);
+    deal(bundle, market->agents, market->chores - difficult, market->easy);
+    uint32_t costliest = bundle[0];
+    for (size_t k = 1; k < market->agents; k++)
+        if (bundle[k] > costliest)
+            costliest = bundle[k];
+    return costliest;
+}
+
+uint8_t plain_measures(const uint8_t *sheet, size_t sheet_len, uint32_t measures[SHARES_MAX_AGENTS])
+{
+    Market market;
+    uint8_t refusal = read_sheet(&market, sheet, sheet_len);
+    if (refusal == SHARES_OK && market.difficult % market.easy != 0)
+        refusal = SHARES_BAD_MULTIPLE;
+    if (refusal != SHARES_OK)
+        return refusal;
+    for (size_t i = 0; i < market.agents; i++)
+        measures[i] = measure(&market, i);
     return SHARES_OK;
 }

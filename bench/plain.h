@@ -1,5 +1,5 @@
-/* The share-out, the two checks and the join of two sheets as a plain C
- * program, to time the proved ones beside.
+/* The share-out, the two checks, the join of two sheets and everyone's own
+ * measure as a plain C program, to time the proved ones beside.
  *
  * Each call takes, refuses, writes and returns what the call of that name in
  * shares.h does. Only the dominating list that is shown may be another. */
@@ -25,5 +25,7 @@ uint32_t plain_check_prices(const uint8_t *sheet, size_t sheet_len,
 uint8_t plain_join(const uint8_t *first, size_t first_len,
                    const uint8_t *second, size_t second_len,
                    uint8_t *joined, size_t joined_len, size_t *written);
+
+uint8_t plain_measures(const uint8_t *sheet, size_t sheet_len, uint32_t measures[SHARES_MAX_AGENTS]);
 
 #endif
