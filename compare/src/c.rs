@@ -53,6 +53,11 @@ in_both! {
         joined_len: usize,
         written: *mut usize
     ) -> u8;
+    Measures: shares_measures, plain_measures = fn(
+        sheet: *const u8,
+        sheet_len: usize,
+        measures: *mut u32
+    ) -> u8;
 }
 
 extern "C" {

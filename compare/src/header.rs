@@ -8,8 +8,17 @@ pub fn agents(sheet: &[u8]) -> usize {
 }
 
 pub fn chores(sheet: &[u8]) -> usize {
-    let two_bytes = |at: &[u8]| 256 * usize::from(at[0]) + usize::from(at[1]);
-    sheet.get(1..3).map_or(0, two_bytes)
+    two_bytes(sheet, 1)
+}
+
+/// The easy and the difficult weight.
+pub fn weights(sheet: &[u8]) -> [usize; 2] {
+    [3, 5].map(|at| two_bytes(sheet, at))
+}
+
+fn two_bytes(sheet: &[u8], at: usize) -> usize {
+    let number = |bytes: &[u8]| 256 * usize::from(bytes[0]) + usize::from(bytes[1]);
+    sheet.get(at..at + 2).map_or(0, number)
 }
 
 /// Bytes of each agent's marks.

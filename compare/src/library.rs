@@ -3,6 +3,7 @@
 
 use crate::c;
 use crate::strands::Pair;
+use reference::limits::MAX_AGENTS;
 use reference::{plain_checks, ListVerdict, PriceVerdict};
 
 /// The two checks of any program. Prices are bytes, four to a price.
@@ -43,6 +44,7 @@ pub struct Library {
     check_list: c::CheckList,
     check_prices: c::CheckPrices,
     join: c::Join,
+    measures: c::Measures,
 }
 
 /// What `rt staticlib capi` writes.
@@ -51,6 +53,7 @@ pub const PROVED: Library = Library {
     check_list: c::shares_check_list,
     check_prices: c::shares_check_prices,
     join: c::shares_join,
+    measures: c::shares_measures,
 };
 
 /// bench/plain.c.
@@ -59,6 +62,7 @@ pub const PLAIN: Library = Library {
     check_list: c::plain_check_list,
     check_prices: c::plain_check_prices,
     join: c::plain_join,
+    measures: c::plain_measures,
 };
 
 /// The kinds of verdicts, as include/shares.h numbers them.
@@ -120,6 +124,12 @@ impl Library {
                 written,
             )
         }
+    }
+
+    /// 0 or the refusal number.
+    pub fn measures(&self, sheet: &[u8], measures: &mut [u32; MAX_AGENTS]) -> u8 {
+        // SAFETY: as in `Library::allocate`; the list has an entry for each of 32 agents.
+        unsafe { (self.measures)(sheet.as_ptr(), sheet.len(), measures.as_mut_ptr()) }
     }
 }
 

@@ -54,6 +54,22 @@ pub fn weights(random: &mut Random) -> (u16, u16) {
     (easy as u16, difficult as u16)
 }
 
+/// Weights of which the difficult one is a multiple of the easy one, small ones and
+/// the ends most often.
+pub fn factored_weights(random: &mut Random) -> (u16, u16) {
+    let (most_easy, most_times) = match random.below(6) {
+        0 => return (1, 1_000),
+        1 => return (500, 1_000),
+        2 => (1, 4),
+        3 => (5, 4),
+        4 => (20, 50),
+        _ => (500, 1_000),
+    };
+    let easy = 1 + random.below(most_easy);
+    let times = 2 + random.below(most_times.min(1_000 / easy) - 1);
+    (easy as u16, (easy * times) as u16)
+}
+
 pub fn owners(random: &mut Random, agents: usize, chores: usize) -> Vec<u8> {
     (0..chores)
         .map(|_| 1 + random.below(agents) as u8)

@@ -1,11 +1,11 @@
 //! Random sheets of all shapes.
 
-use crate::random::{shuffle, weights, Random};
-use crate::sizes;
+use crate::random::{factored_weights, shuffle, weights, Random};
+use crate::{header, sizes};
 use reference::compose;
 use reference::costs::Costs;
 use reference::limits::{MAX_AGENTS, MAX_CHORES};
-use reference::sheet::Sheet;
+use reference::sheet::{Sheet, HEADER_BYTES};
 
 /// What the rows of a sheet are like.
 #[derive(Debug, Clone, Copy, PartialEq, Eq)]
@@ -142,6 +142,15 @@ fn path(random: &mut Random, agents: usize, chores: usize) -> Likes {
 pub fn sheet(random: &mut Random, shape: Shape, agents: usize, chores: usize) -> Vec<u8> {
     let (easy, difficult) = weights(random);
     compose::sheet(easy, difficult, &rows(random, shape, agents, chores))
+}
+
+/// The same sheet with weights of which one is a multiple of the other.
+pub fn factored(random: &mut Random, mut sheet: Vec<u8>) -> Vec<u8> {
+    let (agents, chores) = (header::agents(&sheet), header::chores(&sheet));
+    let (easy, difficult) = factored_weights(random);
+    let header = compose::header(agents, chores, easy.into(), difficult.into());
+    sheet[..HEADER_BYTES].copy_from_slice(&header);
+    sheet
 }
 
 /// Often one in which most chores open by count, since nobody likes them.

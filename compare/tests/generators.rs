@@ -1,12 +1,14 @@
 //! The comparison's own sheets, by the second program alone: what is meant to
 //! keep the rules does, and each fault has its number. Scratch has every length
-//! near its limit, and slack every number up to one past its limit.
+//! near its limit, slack every number up to one past its limit, and weights for a
+//! measure are at both ends.
 
 use compare::damage::{harm, Fault, FAULTS};
 use compare::lent::{enough_scratch, short_scratch};
 use compare::lists::{damaged_given, slack};
-use compare::random::Random;
+use compare::random::{factored_weights, Random};
 use compare::{header, shapes, sizes};
+use reference::compose;
 use reference::limits::MAX_CHORES;
 use reference::sheet::{row_bytes, Sheet};
 use std::collections::BTreeSet;
@@ -76,6 +78,21 @@ fn slacks_around_the_limit() {
     let any: BTreeSet<u8> = (0..SHEETS).map(any).collect();
     assert!(any.is_superset(&slacks) && any.contains(&u8::MAX));
     assert!(any.len() > 100, "{any:?}");
+}
+
+#[test]
+fn weights_for_a_measure() {
+    let mut random = Random::new(77);
+    let weights: BTreeSet<(u16, u16)> =
+        (0..SHEETS).map(|_| factored_weights(&mut random)).collect();
+    let ends = BTreeSet::from([(1, 2), (1, 3), (1, 1_000), (2, 4), (500, 1_000)]);
+    assert!(weights.is_superset(&ends), "{weights:?}");
+    assert!(weights.len() > 100, "{weights:?}");
+    for &(easy, difficult) in &weights {
+        assert!(difficult.is_multiple_of(easy), "{easy} {difficult}");
+        let sheet = compose::sheet(easy, difficult, &[""]);
+        assert_eq!(number_of(&sheet), 0, "{easy} {difficult}");
+    }
 }
 
 /// What a fault alone makes of a sheet that keeps the rules.

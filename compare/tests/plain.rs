@@ -1,7 +1,8 @@
 //! The plain C program against the proved library: every answer, and every byte that was lent. Only the dominating lists that they show
-//! may differ. The join is held to the second program's, as the proved one is elsewhere.
+//! may differ. The join and everyone's measure are held to the second program's, as the proved ones are elsewhere.
 
 use compare::comparisons::joins::joined;
+use compare::comparisons::measures;
 use compare::damage::damaged;
 use compare::lent::{assert_all_hold, enough, short, Lengths, Lent};
 use compare::lists::{damaged_given, near_accepted, near_slack, slack, Given};
@@ -234,4 +235,23 @@ fn joined_strands() {
     for number in [0, 1, 2, 3, 4, 5, 8, 12] {
         assert!(numbers[number] > 100, "{numbers:?}");
     }
+}
+
+#[test]
+fn measures_of_sheets() {
+    let mut random = Random::new(51);
+    let mut numbers = [0; 15];
+    let mut sizes = sizes::Seen::default();
+    for _ in 0..SHEETS {
+        let (sheet, kept) = measures::any(&PLAIN, &mut random);
+        let (_, damaged) = measures::damaged(&PLAIN, &mut random);
+        for answer in [kept, damaged] {
+            numbers[usize::from(measures::number(&answer))] += 1;
+        }
+        sizes.add(&sheet);
+    }
+    for number in [0, 1, 2, 3, 4, 5, 14] {
+        assert!(numbers[number] > 100, "{numbers:?}");
+    }
+    sizes.assert_all(sizes::around_bytes(65).chain(sizes::LONGEST), 1);
 }

@@ -8,6 +8,7 @@ pub mod joins;
 pub mod list_checks;
 pub mod lookups;
 pub mod marks;
+pub mod measures;
 pub mod price_checks;
 pub mod records;
 pub mod share_outs;

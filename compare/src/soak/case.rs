@@ -3,6 +3,7 @@
 use crate::comparisons::joins::Joined;
 use crate::comparisons::list_checks::SLACKS;
 use crate::comparisons::marks::Marks;
+use crate::comparisons::measures::{self, Measured};
 use crate::comparisons::records::Faulty;
 use crate::lists::Given;
 use crate::strands::Pair;
@@ -76,6 +77,12 @@ impl From<PriceVerdict> for Answer {
             PriceVerdict::PriceEnvy(..) => Answer::Told("price envy"),
             PriceVerdict::Accepted => Answer::Told("accepted"),
         }
+    }
+}
+
+impl From<Measured> for Answer {
+    fn from(answer: Measured) -> Self {
+        Answer::numbered(measures::number(&answer), "measured")
     }
 }
 

@@ -2,12 +2,15 @@
 
 use super::Case;
 use crate::comparisons::books::{self, Lists};
-use crate::comparisons::{joins, list_checks, lookups, marks, price_checks, records, share_outs};
+use crate::comparisons::{
+    joins, list_checks, lookups, marks, measures, price_checks, records, share_outs,
+};
 use crate::damage::{one_or_two, Fault};
 use crate::random::Random;
 use crate::shapes::{
     any_sheet, large_sheet, largest_sheet, long_sheet, medium_sheet, small_sheet, wide_sheet,
 };
+use crate::PROVED;
 use reference::{plain, share_out, BookShareOut};
 
 /// Compares one input, which its generator and its number make.
@@ -30,8 +33,8 @@ const fn kind(name: &'static str, weight: usize, compare: Compare) -> Kind {
 }
 
 /// Kinds whose inputs take long have few of them.
-pub static KINDS: [Kind; 31] = [
-    kind("small sheets", 98_000, |random, _| {
+pub static KINDS: [Kind; 33] = [
+    kind("small sheets", 68_000, |random, _| {
         share_outs::kept(random, share_out::work, small_sheet).into()
     }),
     kind("medium sheets", 90_000, |random, _| {
@@ -49,7 +52,7 @@ pub static KINDS: [Kind; 31] = [
     kind("largest sheets", 2_000, |random, _| {
         share_outs::kept(random, plain::work, largest_sheet).into()
     }),
-    kind("damaged sheets", 90_000, |random, number| {
+    kind("damaged sheets", 80_000, |random, number| {
         share_outs::damaged(random, &faults(number)).into()
     }),
     kind("sheets, short lists", 40_000, |random, _| {
@@ -121,6 +124,12 @@ pub static KINDS: [Kind; 31] = [
     }),
     kind("joins", 50_000, |random, _| joins::any(random).into()),
     kind("marks shown", 50_000, |random, _| marks::any(random).into()),
+    kind("measures", 30_000, |random, _| {
+        measures::any(&PROVED, random).into()
+    }),
+    kind("damaged measures", 10_000, |random, _| {
+        measures::damaged(&PROVED, random).into()
+    }),
 ];
 
 /// One or two, by turns.
