@@ -1,10 +1,11 @@
-//! Times the proved share-out, both checks and the join beside a plain C
-//! program's and the second program's. Estimates how long the most moves of a
-//! share-out would take, and times what a record adds.
+//! Times the proved share-out, both checks, the join and everyone's measure beside
+//! a plain C program's and the second program's. Estimates how long the most moves
+//! of a share-out would take, and times what a record adds.
 
 mod checks;
 mod columns;
 mod joins;
+mod measures;
 mod most_moves;
 mod records;
 mod share_outs;
@@ -30,6 +31,8 @@ fn main() {
     checks::table(&mut Random::new(32));
     println!();
     joins::table(&mut Random::new(33));
+    println!();
+    measures::table(&mut Random::new(35));
     println!();
     most_moves::table(&mut random);
     println!();
