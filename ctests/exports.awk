@@ -32,6 +32,7 @@ function prototype(text,    inside, answer, count, i, field, fields, list) {
         split(fields[i], field, /: /)
         list = list (i > 1 ? ", " : "") parameter(field[1], field[2])
     }
+    gsub(/model::MAX_AGENTS/, "SHARES_MAX_AGENTS", list)
     gsub(/model::MAX_SHEETS/, "SHARES_BOOK_SHEETS", list)
     return in_c(answer) " " substr(text, 1, index(text, "(")) list ");"
 }

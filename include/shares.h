@@ -26,10 +26,10 @@
  *
  * What a caller owes: every list passes as a pointer and its length in bytes,
  * with that many bytes behind the pointer. A list of length 0 may be NULL, and
- * no other pointer may. What a call writes to may overlap nothing else that it
- * is handed, and no other thread may change what it is handed during the call.
- * Nothing else is asked: whatever the bytes are, a call stays within them and
- * returns.
+ * no other pointer may. A list that is declared with its number of entries has
+ * all of them. What a call writes to may overlap nothing else that it is handed,
+ * and no other thread may change what it is handed during the call. Nothing else
+ * is asked: whatever the bytes are, a call stays within them and returns.
  *
  * Nothing is kept after a call, and no memory is taken. The library has no
  * writable data, so any number of threads may call it at once.
@@ -101,6 +101,7 @@ extern "C" {
 #define SHARES_STACK_ALLOCATE_BOOK 42496
 #define SHARES_STACK_JOIN 512
 #define SHARES_STACK_SHOW_MARKS 512
+#define SHARES_STACK_MEASURES 512
 
 /* Refusal numbers. A call that could give several gives the first, in the
  * order of its list below. A refused call changes nothing that was lent to it,
@@ -120,6 +121,7 @@ extern "C" {
 #define SHARES_SHORT_RECORD 11   /* the moves do not fit the record */
 #define SHARES_UNLIKE_SHEETS 12  /* two sheets differ in n, a or b */
 #define SHARES_BAD_SLACK 13      /* a slack above 8 */
+#define SHARES_BAD_MULTIPLE 14   /* b is not a multiple of a */
 
 /* Shares out a sheet.
  *
@@ -253,7 +255,8 @@ uint8_t shares_allocate_book(const uint8_t *book, size_t book_len,
  * Returns 0: the joined sheet stands at the start of joined, and the rest of that
  * is kept. It has the n, a and b of both; a row has the agent's marks of the
  * first sheet, then those of the second. *written is its number of bytes. It
- * breaks no rule, so every call that is handed a sheet takes it.
+ * breaks no rule, so every call that is handed a sheet takes it, shares_measures
+ * if b is a multiple of a.
  * Returns a refusal number: the first sheet's own, 5 for fewer than 7 bytes, 1,
  * 2, 3, 5, 4; the second's own, in the same order; 12; 2 for more than 4,000
  * chores together; 8.
@@ -283,6 +286,25 @@ uint8_t shares_show_marks(const uint8_t *first, size_t first_len,
                           const uint8_t *second, size_t second_len,
                           size_t person, size_t chore,
                           uint8_t *strand, size_t *start, size_t *size);
+
+/* Tells each agent's own measure, its maximin share: the best that it could secure
+ * if it split the sheet into n piles and were left with the pile that costs it
+ * most. That is the least, over all splits of the m chores into n piles, of what
+ * the costliest pile costs the agent. Costs are as marked, in rows of difficult
+ * marks only too.
+ *
+ * b must be a multiple of a.
+ * Lent: measures, 32 entries, whatever n is.
+ * Returns 0: the first n entries are the measures, in order of agent, each at most
+ * 4,000,000, and the others are kept.
+ * Returns a refusal number: 5 for a sheet of fewer than 7 bytes, 1, 2, 3, 5, 4,
+ * 14.
+ *
+ * A measure goes by the agent's own marks alone, and promises nothing of any list:
+ * that of a share-out may cost an agent more.
+ */
+uint8_t shares_measures(const uint8_t *sheet, size_t sheet_len,
+                        uint32_t measures[SHARES_MAX_AGENTS]);
 
 /* A verdict is one number. Its low byte is 0 or the refusal number, the next byte
  * is its kind; the kinds of the two checks share no value. What the two high
@@ -408,6 +430,8 @@ static inline const char *shares_refusal_text(uint8_t number)
         return "The two sheets differ in the number of agents or in a weight.";
     case SHARES_BAD_SLACK:
         return "The slack is above 8.";
+    case SHARES_BAD_MULTIPLE:
+        return "The difficult weight is not a multiple of the easy one.";
     default:
         return "No refusal has this number.";
     }
