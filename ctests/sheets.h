@@ -79,6 +79,13 @@ static inline void toss_marks(char *marks, size_t count, uint32_t seed)
         marks[k] = draw(&seed, 2) == 0 ? 'e' : 'd';
 }
 
+/* Marks as the bits of a number are, the lowest first: 1 for difficult. */
+static inline void spell_marks(char *marks, size_t count, uint32_t number)
+{
+    for (size_t k = 0; k < count; k++)
+        marks[k] = number >> k & 1 ? 'd' : 'e';
+}
+
 /* The marks of a largest sheet. Each chore is easy for one agent and now and then for another. Low numbers like far
  * more of them, so that prices are cut. */
 static inline struct rows draw_rows(char *marks, uint32_t seed)

@@ -1,9 +1,7 @@
 /* The list check at every slack: lists worked by hand, agents with few chores,
  * long lists, and all lists of small sheets beside what is found by trying.
  * refusals.c has the slacks that are refused. */
-#include <stdbool.h>
-
-#include "sheets.h"
+#include "lists.h"
 #include "tests.h"
 
 /* Bytes lent after the list. */
@@ -14,30 +12,7 @@
 #define WASTEFUL (SHARES_WASTEFUL << 8)
 #define UNFAIR(i, j) (SHARES_UNFAIR << 8 | (uint32_t)(i) << 16 | (uint32_t)(j) << 24)
 
-/* An owner for each of the chores that the rows have marks for. */
-struct list {
-    struct rows rows;
-    size_t chores;
-    const uint8_t *owners;
-};
-
 static uint8_t sheet[SHEET], shown[CHORES + REST];
-
-static uint32_t cost(const struct list *list, size_t i, size_t chore)
-{
-    const struct rows *rows = &list->rows;
-    return rows->marks[rows->width * (i - 1) + chore] == 'e' ? rows->terms.easy : rows->terms.difficult;
-}
-
-/* What the chores that `owners` gives to agent j cost agent i. */
-static uint32_t cost_of(const struct list *list, const uint8_t *owners, size_t i, size_t j)
-{
-    uint32_t sum = 0;
-    for (size_t c = 0; c < list->chores; c++)
-        if (owners[c] == j)
-            sum += cost(list, i, c);
-    return sum;
-}
 
 static bool dominates(const uint8_t *other, const struct list *list)
 {
@@ -216,17 +191,6 @@ static uint32_t fewest_off(const struct list *list, size_t i, size_t j)
     return fewest;
 }
 
-/* The next of all lists. False after the last, and then it is the first again. */
-static bool next_list(uint8_t *owners, size_t chores, uint32_t agents)
-{
-    size_t c = 0;
-    while (c < chores && owners[c] == agents)
-        owners[c++] = 1;
-    if (c < chores)
-        owners[c]++;
-    return c < chores;
-}
-
 static bool is_wasteful(const struct list *list)
 {
     uint8_t other[FEW];
@@ -273,8 +237,7 @@ static void test_tried(struct terms terms, size_t chores)
     uint32_t right = 0, all = 0;
     memset(owners, 1, sizeof owners);
     for (uint32_t drawn = 0; drawn < 1u << terms.agents * chores; drawn++) {
-        for (size_t k = 0; k < terms.agents * chores; k++)
-            marks[k] = drawn >> k & 1 ? 'd' : 'e';
+        spell_marks(marks, terms.agents * chores, drawn);
         do {
             right += right_verdicts(&list);
             all += SHARES_MAX_SLACK + 1;

@@ -444,8 +444,7 @@ static void test_parts(void)
     char marks[8];
     const struct rows rows = {{2, 1, 3}, marks, 4};
     for (uint32_t drawn = 0; drawn < 256; drawn++) {
-        for (size_t k = 0; k < sizeof marks; k++)
-            marks[k] = drawn >> k & 1 ? 'd' : 'e';
+        spell_marks(marks, sizeof marks, drawn);
         expect("join", "2 + 2 chores", join(cut_first(&rows, 2), cut_second(&rows, 2), sizeof lent.joined), SHARES_OK);
         count_lists(&seen);
     }
