@@ -121,6 +121,15 @@ static void test_slacks(void)
            SHARES_BAD_OWNER_COUNT);
 }
 
+/* The list of measures has no length: it is always lent. */
+static void test_measures(void)
+{
+    uint32_t measures[SHARES_MAX_AGENTS] = {1};
+    expect("measures", "no sheet", shares_measures(NULL, 0, measures), SHARES_BAD_LENGTH);
+    expect("measures", "no chores", shares_measures(bare, sizeof bare, measures), SHARES_OK);
+    expect("measures", "no chores, the measure", measures[0], 0);
+}
+
 /* The lists that tell of a book's sheets have no length: they are always lent. */
 static uint8_t allocate_book(const uint8_t *book, size_t book_len, uint8_t *own, size_t own_len, uint8_t *pri,
                              size_t pri_len, uint8_t *scr, size_t scr_len)
@@ -174,6 +183,7 @@ int main(void)
     test_allocate_recorded();
     test_checks();
     test_slacks();
+    test_measures();
     test_books();
     test_strands();
     return finished("lists of no bytes at NULL");

@@ -141,12 +141,12 @@ static void test_price(uint32_t price)
 static void test_texts(void)
 {
     const char *const none = shares_refusal_text(255);
-    for (uint8_t i = SHARES_OK; i <= SHARES_BAD_SLACK; i++) {
+    for (uint8_t i = SHARES_OK; i <= SHARES_BAD_MULTIPLE; i++) {
         expect("refusal text", "of its own", strcmp(shares_refusal_text(i), none) != 0, 1);
         for (uint8_t j = 0; j < i; j++)
             expect("refusal text", "each another", strcmp(shares_refusal_text(i), shares_refusal_text(j)) != 0, 1);
     }
-    for (uint8_t i = SHARES_BAD_SLACK + 1; i != 0; i++)
+    for (uint8_t i = SHARES_BAD_MULTIPLE + 1; i != 0; i++)
         expect("refusal text", "no such number", strcmp(shares_refusal_text(i), none) == 0, 1);
 }
 
@@ -249,6 +249,20 @@ static void test_priced_lists(void)
     }
 }
 
+/* Each chore is a pile, and the costlier one costs 2. With weights 2 and 3 nothing is told. */
+static void test_measures(void)
+{
+    uint8_t sheet[sizeof crossed];
+    uint32_t measures[SHARES_MAX_AGENTS];
+    memcpy(sheet, crossed, sizeof crossed);
+    expect("measures", "told", shares_measures(sheet, sizeof sheet, measures), SHARES_OK);
+    expect("measures", "agent 1", measures[0], 2);
+    expect("measures", "agent 2", measures[1], 2);
+    put_two(put_two(sheet + 3, 2), 3);
+    expect("measures", "no multiple", shares_measures(sheet, sizeof sheet, measures), SHARES_BAD_MULTIPLE);
+    expect("measures", "the number", SHARES_BAD_MULTIPLE, 14);
+}
+
 #define SIX 6
 
 /* Agent 1 envies agent 3, and agent 2 envies both others: the first pair is the first by i, and then by j. */
@@ -297,6 +311,7 @@ int main(void)
     test_lists();
     test_slacks();
     test_priced_lists();
+    test_measures();
     test_first_pair();
     test_off_price(1);
     test_off_price(255);

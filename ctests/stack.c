@@ -25,7 +25,7 @@ static uint8_t book[1 + 4 * BOOK_SHEETS + BOOK_SHEETS * SHEET];
 static uint8_t long_owners[SHARES_BOOK_ENTRIES], long_prices[SHARES_PRICE_BYTES * SHARES_BOOK_ENTRIES];
 static uint8_t refusals[SHARES_BOOK_SHEETS], cuts[SHARES_BOOK_SHEETS];
 static uint64_t moves[SHARES_BOOK_SHEETS], tally[2];
-static uint32_t firsts[SHARES_BOOK_SHEETS];
+static uint32_t firsts[SHARES_BOOK_SHEETS], told[AGENTS];
 static uint8_t joined[SHEET], strand;
 static size_t start, size, written;
 
@@ -77,6 +77,11 @@ static void show_marks(void)
     refused |= shares_show_marks(lent.first, FIRST, lent.second, SECOND, AGENTS, CHORES, &strand, &start, &size);
 }
 
+static void measures(void)
+{
+    refused |= shares_measures(lent.sheet, SHEET, told);
+}
+
 struct call {
     const char *name;
     void (*run)(void);
@@ -93,6 +98,7 @@ static struct call calls[] = {
     {"shares_allocate_book", allocate_book, SHARES_STACK_ALLOCATE_BOOK, 0},
     {"shares_join", join, SHARES_STACK_JOIN, 0},
     {"shares_show_marks", show_marks, SHARES_STACK_SHOW_MARKS, 0},
+    {"shares_measures", measures, SHARES_STACK_MEASURES, 0},
 };
 #define CALLS (sizeof calls / sizeof *calls)
 /* The checks among them. */

@@ -179,6 +179,7 @@ static size_t chores_of(const uint8_t *sheet)
 static void expect_taken(const char *what)
 {
     static uint8_t owners[CHORES], dominating[CHORES], prices[PRICES], scratch[SHARES_SCRATCH], record[RECORD];
+    static uint32_t measures[AGENTS];
     const uint8_t *sheet = lent.joined;
     size_t whole = lent.written, m = chores_of(sheet);
     uint64_t moves;
@@ -194,6 +195,7 @@ static void expect_taken(const char *what)
                shares_verdict_kind(shares_check_list(sheet, whole, owners, m, slack, dominating, m)), SHARES_HOLDS);
     expect("check_prices, joined", what,
            shares_verdict_kind(shares_check_prices(sheet, whole, owners, m, prices, 4 * m)), SHARES_ACCEPTED);
+    expect("measures, joined", what, shares_measures(sheet, whole, measures), SHARES_OK);
 }
 
 static void expect_joined(const char *what, struct given first, struct given second, struct given joined, size_t length)

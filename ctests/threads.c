@@ -16,8 +16,9 @@ struct answer {
     uint8_t joined[SHEET];
     uint64_t moves, recorded_moves;
     size_t written, start, size;
-    uint32_t refusal, cuts, recorded, recorded_cuts, edited, priced, joining, showing, strand;
+    uint32_t refusal, cuts, recorded, recorded_cuts, edited, priced, joining, showing, strand, measuring;
     uint32_t lists[SHARES_MAX_SLACK + 1]; /* the list at each slack */
+    uint32_t measures[AGENTS];
 };
 
 static struct joinable lent[SHEETS];
@@ -53,6 +54,7 @@ static void ask(const struct joinable *from, struct answer *answer)
     edited[0] = (uint8_t)(1 + edited[0] % AGENTS);
     answer->edited = shares_check_list(sheet, SHEET, edited, CHORES, 1, answer->dominating, CHORES);
     ask_of_strands(from, answer);
+    answer->measuring = shares_measures(sheet, SHEET, answer->measures);
 }
 
 /* Hands back its argument if some answer differs. */
@@ -81,6 +83,7 @@ int main(void)
             expect("alone", "holds at each slack from 1 on", alone[i].lists[slack], SHARES_HOLDS << 8);
         expect("alone", "joined", alone[i].joining, SHARES_OK);
         expect("alone", "marks shown", alone[i].showing, SHARES_OK);
+        expect("alone", "measures told", alone[i].measuring, SHARES_OK);
     }
     for (size_t i = 0; i < THREADS; i++)
         expect("threads", "started", (uint32_t)pthread_create(&threads[i], NULL, ask_again, alone), 0);
