@@ -28,7 +28,7 @@ reliefs-are : (s : List ℕ) (i : ℕ) → reliefs (asMarked s) i ≡ choresOf s
 unfolding asMarked
 reliefs-are s i = omega (arith, count-not (choresOf s) (marksEasy s i), burdens-are s i)
 
-module _ {s : List ℕ} {n m i : ℕ} (g : Measurable s n m i) {b difficult : ℕ} (weight : b ≡ difficultWeight s) (marks : difficult ≡ difficultMarks s i) where
+module _ {s : List ℕ} {n m i : ℕ} (g : Measurable s n m i) {difficult : ℕ} (marks : difficult ≡ difficultMarks s i) where
   pub few-marks : difficult ≤ m
   unfolding difficultMarks
   few-marks = rw (marks, g .chores) (count-le (choresOf s) (isDifficult s i))
@@ -39,7 +39,7 @@ module _ {s : List ℕ} {n m i : ℕ} (g : Measurable s n m i) {b difficult : �
       let most : m ≤ maxChores = rw (g .chores) (g .valid .choresFit) in
       mul-le-mul h (le-trans l most)
 
-  module _ {costs : List ℕ} (zeros : costs ≡ replicate maxAgents 0) where
+  module _ {b : ℕ} {costs : List ℕ} (weight : b ≡ difficultWeight s) (zeros : costs ≡ replicate maxAgents 0) where
     -- the difficult ones, of bundles that cost nothing
     pub first-dealing : Dealing n b difficult costs
     first-dealing =

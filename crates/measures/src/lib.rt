@@ -70,10 +70,13 @@ fn share(sheet: &[u8], n: usize, m: usize, i: usize) -> u32
     requires { ⌜ Measurable (now sheet) n m i ⌝ }
     ensures { λ r. ⌜ r ≡ maximinShare (asMarked (now (sheet .entry))) i ⌝ }
 {
+    let a = sheet::easy_weight(sheet);
+    let b = sheet::difficult_weight(sheet);
     let difficult = sheet::difficult_marks(sheet, m, i);
+    let easy = m - difficult;
     let mut costs = totals::zeros();
-    deal(n, sheet::difficult_weight(sheet), difficult, &mut costs);
-    deal(n, sheet::easy_weight(sheet), m - difficult, &mut costs);
+    deal(n, b, difficult, &mut costs);
+    deal(n, a, easy, &mut costs);
     costliest(n, &costs)
 }
 

@@ -20,7 +20,7 @@ use Rattle.model.specs.Fairness.{dominates, isAllocation}
 use Rattle.model.specs.Algorithm.{Outcome, busy, done, lacking, after}
 use Rattle.model.specs.Record.{movesIn, recordOf}
 use Rattle.model.specs.Refusals.{sheetRefusal}
-use Rattle.model.specs.Cases.{Case, shared-out, lacks, opens, judged, spelled, lent, lent-book, recorded, lent-record, joins, lent-join, marked, asked, listed, even-to-one, shown, priced, Shares, Records, Meets, MeetsAll}
+use Rattle.model.specs.Cases.{Case, shared-out, lacks, opens, judged, spelled, lent, lent-book, recorded, lent-record, joins, lent-join, marked, asked, listed, even-to-one, shown, measured, unmeasured, dealt-into, priced, Shares, Records, Meets, MeetsAll}
 use Rattle.model.proofs.Allocations.{allocation-picks}
 
 -- what an outcome shows of a run that has ended
@@ -67,6 +67,9 @@ Computed enough (shown s owners other) =
     (isAllocation (asMarked s) other ≡ true)
     × (dominates (asMarked s) (ownerOf other) (ownerOf owners) ≡ true)
     × (someList (asMarked s .n) (asMarked s .m) (dominatesToo (asMarked s) owners other) ≡ false)
+Computed enough (measured s numbers) = Meets (measured s numbers)
+Computed enough (unmeasured s k) = Meets (unmeasured s k)
+Computed enough (dealt-into s person bundles) = Meets (dealt-into s person bundles)
 Computed enough (priced s owners prices answer) = Meets (priced s owners prices answer)
 
 unfoldable pub ComputedAll : ℕ → List Case → Type 0
@@ -127,6 +130,9 @@ met enough (shown s owners other) h =
       dominating = h .1;
       only = λ y. no-other (asMarked s) owners other y (h .2) (h .0);
     }
+met enough (measured s numbers) h = h
+met enough (unmeasured s k) h = h
+met enough (dealt-into s person bundles) h = h
 met enough (priced s owners prices answer) h = h
 
 pub met-all : (enough : ℕ) (cs : List Case) → ComputedAll enough cs → MeetsAll cs

@@ -1,5 +1,5 @@
 -- The forms of the worked cases, and what it is for the definitions to meet one.
-use Prim.Native.Nat.{ℕ, _/_, _%_}
+use Prim.Native.Nat.{ℕ, _-_, _/_, _%_}
 use Prim.Native.Char.{code}
 use Prim.Native.String as S
 use Prim.Native.String.{String}
@@ -12,10 +12,11 @@ use Rattle.finite.specs.Packed.{packed}
 use Rattle.model.specs.Instance.{ownerOf}
 use Rattle.model.specs.Sheet.{asMarked, asRead}
 use Rattle.model.specs.Fairness.{totalCost, ef1, dominates, isAllocation}
+use Rattle.model.specs.MaximinShare.{dealt, measuresOf}
 use Rattle.model.specs.Algorithm.{State, lacking, step, opening, Ends}
 use Rattle.model.specs.Record.{movesIn, recordOf}
 use Rattle.model.specs.Strands.{joinedSheet, strandMarks}
-use Rattle.model.specs.Refusals.{sheetRefusal, allocateRefusal, recordedRefusal, strandsRefusal, joinRefusal, showRefusal, bookRefusal}
+use Rattle.model.specs.Refusals.{sheetRefusal, allocateRefusal, recordedRefusal, strandsRefusal, joinRefusal, showRefusal, measuresRefusal, bookRefusal}
 use Rattle.model.specs.Replies.{Reply}
 use Rattle.model.specs.Verdicts.{listCheck, priceCheck}
 
@@ -81,6 +82,12 @@ pub data Case : Type 0 where
   even-to-one : List ℕ → List ℕ → Bool → Case
   -- on a sheet, a list, and the one list that dominates it
   shown : List ℕ → List ℕ → List ℕ → Case
+  -- everyone's own measure on a sheet
+  measured : List ℕ → List ℕ → Case
+  -- the refusal number of asking for them
+  unmeasured : List ℕ → ℕ → Case
+  -- on a sheet, the bundles that an agent's chores are dealt into, the agent counted from 1
+  dealt-into : List ℕ → ℕ → List ℕ → Case
   -- the price check's answer on a sheet, a list and prices
   priced : List ℕ → List ℕ → List ℕ → Reply → Case
 
@@ -124,6 +131,9 @@ Meets (asked first second person chore k) = showRefusal first second person chor
 Meets (listed s owners slack entries answer) = listCheck s owners slack entries ≡ answer
 Meets (even-to-one s owners answer) = ef1 (asMarked s) (ownerOf owners) ≡ answer
 Meets (shown s owners other) = Shows s owners other
+Meets (measured s numbers) = (measuresRefusal s ≡ 0) × (measuresOf s ≡ numbers)
+Meets (unmeasured s k) = measuresRefusal s ≡ k
+Meets (dealt-into s person bundles) = dealt (asMarked s) (person - 1) ≡ bundles
 Meets (priced s owners prices answer) = priceCheck s owners prices ≡ answer
 
 unfoldable pub MeetsAll : List Case → Type 0

@@ -46,9 +46,7 @@ dealKind I i kind (suc k) bundles = dealChore I i k (kind k) (dealKind I i kind 
 
 -- "dealing reels, difficult ones first" for agent i, from chores that are in no bundle
 unfoldable pub dealt : Instance → ℕ → List ℕ
-dealt I i =
-    dealKind I i (I .easy i) (I .m)
-    (dealKind I i (λ c. not (I .easy i c)) (I .m) (replicate (I .m) 0))
+dealt I i = dealKind I i (I .easy i) (I .m) (dealKind I i (λ c. not (I .easy i c)) (I .m) (replicate (I .m) 0))
 
 -- "the numbers of all n people, in order of person"; "Here rows are taken as marked."
 unfoldable pub measuresOf : List ℕ → List ℕ

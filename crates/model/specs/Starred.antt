@@ -8,7 +8,7 @@ use Rattle.finite.specs.Packed.{bytesFor}
 use Rattle.model.specs.Record.{moveBytes}
 use Rattle.model.specs.Strands.{joinedSheet}
 use Rattle.model.specs.Replies.{refused, holds, unfair, wasteful, offPrice, priceEnvy, accepted}
-use Rattle.model.specs.Cases.{header, sheet, row, Case, shared-out, opens, lacks, judged, spelled, lent, lent-book, recorded, lent-record, joins, lent-join, marked, asked, listed, even-to-one, shown, priced}
+use Rattle.model.specs.Cases.{header, sheet, row, Case, shared-out, opens, lacks, judged, spelled, lent, lent-book, recorded, lent-record, joins, lent-join, marked, asked, listed, even-to-one, shown, measured, unmeasured, dealt-into, priced}
 
 unfoldable pub sheetC : List ℕ
 sheetC = sheet 1 3 ("eeeee" ∷ "dddde" ∷ [])
@@ -259,4 +259,26 @@ table =
     ∷ spelled (moveBytes (record { chore = 299; giver = 0; receiver = 1; round = 1; step = 2 })) (1 ∷ 44 ∷ 1 ∷ 2 ∷ 1 ∷ 2 ∷ [])
     -- the opening costs least in total: three chores that cost everybody 3, and two that cost their owners 1
     ∷ opens (sheet 1 3 ("ddded" ∷ "dddde" ∷ "dddee" ∷ [])) (1 ∷ 2 ∷ 3 ∷ 1 ∷ 2 ∷ []) 11
+    -- document 02, request 9: one agent's pile is the whole sheet; no chores; fewer chores than agents
+    ∷ measured (sheet 1 3 ("ede" ∷ [])) (5 ∷ [])
+    ∷ measured (sheet 1 3 ("" ∷ "" ∷ [])) (0 ∷ 0 ∷ [])
+    ∷ measured (sheet 1 2 ("e" ∷ "d" ∷ "e" ∷ [])) (1 ∷ 2 ∷ 1 ∷ [])
+    -- each agent by its own marks; "Here rows are taken as marked.": a row of difficult marks only too
+    ∷ measured sheetC (3 ∷ 7 ∷ [])
+    ∷ measured (sheet 1 3 ("eee" ∷ "ddd" ∷ [])) (2 ∷ 6 ∷ [])
+    -- an easy chore beside each of two difficult ones, and both beside neither
+    ∷ measured (sheet 2 6 ("edd" ∷ "eed" ∷ [])) (8 ∷ 6 ∷ [])
+    -- dealing: "difficult ones first", so that two easy ones lie together; each kind by number, and of several cheapest piles to the first
+    ∷ dealt-into (sheet 1 2 ("eed" ∷ "eee" ∷ [])) 1 (2 ∷ 2 ∷ 1 ∷ [])
+    ∷ dealt-into (sheet 1 2 ("eed" ∷ "eee" ∷ [])) 2 (1 ∷ 2 ∷ 1 ∷ [])
+    ∷ dealt-into (sheet 1 3 ("edede" ∷ "eeeee" ∷ "eeeee" ∷ [])) 1 (3 ∷ 1 ∷ 3 ∷ 2 ∷ 3 ∷ [])
+    -- b is a multiple of a, and is not
+    ∷ unmeasured (sheet 2 6 ("e" ∷ [])) 0
+    ∷ unmeasured (sheet 2 3 ("e" ∷ [])) 14
+    ∷ unmeasured (sheet 400 1000 ("e" ∷ [])) 14
+    -- "after the sheet's own checks": weights of 2 and 3 with 33 agents, 4,001 chores, no row, a set bit after the last chore
+    ∷ unmeasured (header 33 1 2 3) 1
+    ∷ unmeasured (header 1 4001 2 3) 2
+    ∷ unmeasured (header 1 1 2 3) 5
+    ∷ unmeasured (header 1 7 2 3 ++ (1 ∷ [])) 4
     ∷ []
