@@ -101,7 +101,7 @@ extern "C" {
 #define SHARES_STACK_ALLOCATE_BOOK 42496
 #define SHARES_STACK_JOIN 512
 #define SHARES_STACK_SHOW_MARKS 512
-#define SHARES_STACK_MEASURES 512
+#define SHARES_STACK_MEASURES 1024
 
 /* Refusal numbers. A call that could give several gives the first, in the
  * order of its list below. A refused call changes nothing that was lent to it,

@@ -5,6 +5,7 @@ use crate::sheets::{halves, sheets};
 use crate::timing::in_turn;
 use compare::random::Random;
 use compare::{Library, PLAIN, PROVED};
+use reference::compose;
 use reference::limits::MAX_AGENTS;
 
 /// What a call is lent.
@@ -59,10 +60,19 @@ fn row(name: &str, sheets: &[Vec<u8>]) {
     columns::row(name, in_turn(sheets.len(), ways));
 }
 
+/// For every agent a bundle in eight stays behind the others by 1,000: that takes
+/// the proved dealing, which goes by what the cheapest cost, longest.
+fn steepest(agents: usize, chores: usize) -> Vec<u8> {
+    let difficult = agents - agents / 8;
+    let row = "d".repeat(difficult) + &"e".repeat(chores - difficult);
+    compose::sheet(1, 1_000, &vec![row; agents])
+}
+
 pub fn table(random: &mut Random) {
     columns::heading("measures");
     for (agents, chores) in [(3, 200), (6, 60), (32, 200), (32, 4_000)] {
         let name = format!("{agents} x {chores}, random");
         row(&name, &sheets(random, halves, agents, chores));
     }
+    row("32 x 4000, weights 1 and 1000", &[steepest(32, 4_000)]);
 }
