@@ -1,10 +1,10 @@
 -- What `measures` answers: a refusal, or the shares of all agents over the first entries of a list.
 -- Assumes nothing.
-use Prim.Native.Nat.{ℕ, _%_, _≤_, _<_, _∣_}
-use mathlib.Core.Bool.{true, not}
+use Prim.Native.Nat.{ℕ, _%_, _<_, _∣_}
+use mathlib.Core.Bool.{not}
 use mathlib.Core.List.{List, _++_}
-use mathlib.Core.Path.{_≡_, refl, sym, ap, _∙_}
-use native.Mathlib.Nat.{le-refl, le-of-eq, dvd-of-mod-eq-zero}
+use mathlib.Core.Path.{_≡_, sym, ap, _∙_}
+use native.Mathlib.Nat.{le-of-eq, dvd-of-mod-eq-zero}
 use native.Mathlib.Omega.{arith}
 use lib.Dec.{eqb}
 use lib.ListN.{length, getD, take, drop, List·getD-append}

@@ -1,29 +1,27 @@
 -- Dealing chores into bundles: each chore that is dealt is in one of n bundles, and what the bundles cost is what dealing by costs alone makes.
 -- Assumes nothing.
 use Prim.Native.Nat.{ℕ, zero, suc, _+_, _≤_, _<_}
-use mathlib.Core.Bool.{Bool, true, false, cond, not}
+use mathlib.Core.Bool.{Bool, true, false}
 use mathlib.Core.List.{List}
 use mathlib.Core.Path.{_≡_, refl, sym, ap, ap₂, _∙_}
 use native.Mathlib.Nat.{le-refl}
 use native.Mathlib.Numerals.{add-one}
 use native.Mathlib.Omega.{arith}
 use lib.Dec.{ltb}
-use lib.ListN.{length, getD, set, replicate, length-set, length-replicate, getD-replicate}
+use lib.ListN.{length, getD, set, length-set}
 use lib.Seq.{getD-set-same, getD-set-other}
-use Rattle.finite.specs.Sums.{sumWhere, countTo}
-use Rattle.finite.specs.Lists.{Picks, Table}
-use Rattle.finite.proofs.Tests.{by-test, by-cond, clash, not-off, cond-true, cond-false}
+use Rattle.finite.specs.Sums.{countTo}
+use Rattle.finite.specs.Lists.{Table}
+use Rattle.finite.proofs.Tests.{by-test, by-cond, clash}
 use Rattle.finite.proofs.Below.{none-below, by-top}
-use Rattle.finite.proofs.Where.{where-none}
 use Rattle.finite.proofs.Counts.{count-zero, count-hit, count-miss}
 use Rattle.finite.proofs.Chosen.{smaller-order, chosen-cong}
 use Rattle.finite.proofs.Running.{chosen-some}
-use Rattle.finite.proofs.Sweeps.{table-zeros, table-set}
+use Rattle.finite.proofs.Sweeps.{table-set}
 use Rattle.finite.proofs.Filled.{filled-more, filled-same}
 use Rattle.model.specs.Instance.{Instance, cost}
-use Rattle.model.specs.MaximinShare.{inBundle, bundleCost, cheapestBundle, dealChore, dealKind, dealt}
+use Rattle.model.specs.MaximinShare.{inBundle, bundleCost, cheapestBundle, dealChore, dealKind}
 use Rattle.measures.specs.Dealing.{cheapest, addedTo, dealtOne, dealtOn}
-use Rattle.measures.proofs.Bearable.{burdens, reliefs}
 
 -- of the first k chores those of one kind have been dealt, the others are where they were
 pub record Placed (n : ℕ) (kind : ℕ → Bool) (k : ℕ) (old new : List ℕ) : Type 0 where
@@ -83,16 +81,16 @@ module _ (I : Instance) (i size : ℕ) (some : 0 < I .n) (fits : I .n ≤ size) 
   -- a chore of cost w that is in no bundle yet
   deal-costs : {w k : ℕ} (bundles : List ℕ) {costs : List ℕ} → Table size (bundleCost I i bundles) costs → k < I .m → k < length bundles → getD bundles k 0 ≡ 0 → cost I i k ≡ w → Table size (bundleCost I i (set bundles k (cheapestBundle I i bundles + 1))) (dealtOne (I .n) w costs)
   unfolding bundleCost inBundle dealtOne addedTo
-  deal-costs bundles t l there free price =
+  deal-costs bundles t l there free weighs =
       let v = cheapestBundle I i bundles in
       let below : v < size = omega (arith, cheapest-bundle I i some bundles) in
       rw (← cheapest-same bundles t)
       (table-set t below
-      (rw (filled-more bundles v (cost I i) l there free, price, t .entry v below))
+      (rw (filled-more bundles v (cost I i) l there free, weighs, t .entry v below))
       (filled-same bundles v (cost I i) l there free))
 
   -- chores of one kind, each of cost w and in no bundle
-  module _ (kind : ℕ → Bool) (w : ℕ) (old : List ℕ) {costs : List ℕ} (long : length old ≡ I .m) (price : (c : ℕ) → c < I .m → kind c ≡ true → cost I i c ≡ w) (free : (c : ℕ) → c < I .m → kind c ≡ true → getD old c 0 ≡ 0) where
+  module _ (kind : ℕ → Bool) (w : ℕ) (old : List ℕ) {costs : List ℕ} (long : length old ≡ I .m) (weighs : (c : ℕ) → c < I .m → kind c ≡ true → cost I i c ≡ w) (free : (c : ℕ) → c < I .m → kind c ≡ true → getD old c 0 ≡ 0) where
     pub kind-costs : (k : ℕ) → k ≤ I .m → Table size (bundleCost I i old) costs → Table size (bundleCost I i (dealKind I i kind k old)) (dealtOn (I .n) w (countTo k kind) costs)
     unfolding dealKind dealChore dealtOn
     kind-costs zero l t = rw (count-zero kind) t
@@ -100,5 +98,5 @@ module _ (I : Instance) (i size : ℕ) (some : 0 < I .n) (fits : I .n ≤ size) 
         let before = kind-costs k (omega arith) t in
         let at = placed I i some kind k old (omega arith) in
         by-test (kind k)
-        (λ h. rw (h, ← add-one k, count-hit k kind h, add-one (countTo k kind)) (deal-costs (dealKind I i kind k old) before l (omega (arith, at .size)) (at .later k (le-refl k) ∙ free k l h) (price k l h)))
+        (λ h. rw (h, ← add-one k, count-hit k kind h, add-one (countTo k kind)) (deal-costs (dealKind I i kind k old) before l (omega (arith, at .size)) (at .later k (le-refl k) ∙ free k l h) (weighs k l h)))
         (λ h. rw (h, ← add-one k, count-miss k kind h) before)

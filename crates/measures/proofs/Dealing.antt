@@ -1,27 +1,24 @@
 -- Laws of dealing by what the bundles cost: one level after the other, and what a bundle costs at most.
 -- Assumes nothing.
 use Prim.Native.Nat.{ℕ, zero, suc, _+_, _*_, _-_, _^_, _≤_, _<_}
-use mathlib.Core.Bool.{true}
 use mathlib.Core.List.{List}
 use mathlib.Core.Path.{_≡_, refl, sym, ap, _∙_}
 use mathlib.Core.Logic.{_⊎_, ⊎-elim}
 use native.Mathlib.Nat.{le-refl, add-zero, add-suc, mul-suc, mul-one, mul-add, mul-le-mul-left}
-use native.Mathlib.Numerals.{add-one}
 use native.Mathlib.Omega.{arith}
-use lib.ListN.{length, getD, set, length-set}
-use lib.Seq.{getD-set-same, getD-set-other}
+use lib.ListN.{length, getD}
 use borrow.Author.Tests.{lt-ltb, le-ltb}
 use borrow.Author.Count.{below-more}
 use Rattle.finite.proofs.Below.{none-below, by-same, by-less}
 use Rattle.finite.proofs.Chosen.{smaller-order, chosen-intro, chosen-unique}
 use Rattle.model.specs.Limits.{maxAgents}
 use Rattle.measures.specs.Dealing.{cheapest, addedTo, dealtOne, dealtOn, Dealing, Passed, LevelDealt}
-use Rattle.measures.proofs.Levels.{cheapest-below, cheapest-least}
+use Rattle.measures.proofs.Levels.{added-long, added-here, added-other, cheapest-below, cheapest-least}
 
 pub dealt-long : (n w k : ℕ) (costs : List ℕ) → length (dealtOn n w k costs) ≡ length costs
-unfolding dealtOn dealtOne addedTo
+unfolding dealtOn dealtOne
 dealt-long n w zero costs = refl
-dealt-long n w (suc k) costs = simp length-set (dealt-long n w k costs)
+dealt-long n w (suc k) costs = added-long _ w _ ∙ dealt-long n w k costs
 
 -- none of them
 pub dealt-start : (n w count : ℕ) (costs : List ℕ) → costs ≡ dealtOn n w (count - count) costs
@@ -36,17 +33,16 @@ dealt-more n w s (suc t) costs = ap (dealtOne n w) (dealt-more n w s t costs) �
 
 -- no bundle gets more than all of them
 pub dealt-at-most : {n : ℕ} (w k : ℕ) (costs : List ℕ) → 0 < n → n ≤ length costs → (j : ℕ) → getD (dealtOn n w k costs) j 0 ≤ getD costs j 0 + w * k
-unfolding dealtOn dealtOne addedTo
+unfolding dealtOn dealtOne
 dealt-at-most w zero costs some room j = omega arith
 dealt-at-most {n} w (suc k) costs some room j =
     let before = dealtOn n w k costs in
     let v = cheapest n before in
-    let there : v < length before = omega (arith, cheapest-below before some, dealt-long n w k costs) in
-    let most = dealt-at-most w k costs some room j in
+    let here = added-here v w before (omega (arith, cheapest-below before some, dealt-long n w k costs)) in
     let more : w * suc k ≡ w * k + w = mul-suc w k in
     by-same j v
-    (λ e. rw (e, getD-set-same before v (getD before v 0 + w) 0 there) (let at : getD before v 0 ≤ getD costs v 0 + w * k = rw e at most in omega arith))
-    (λ ne. rw (getD-set-other before v j (getD before v 0 + w) 0 ne) (omega arith))
+    (λ e. rw e (omega (arith, here, dealt-at-most w k costs some room v)))
+    (λ ne. omega (arith, added-other v w before j ne, dealt-at-most w k costs some room j))
 
 -- a level, bundle by bundle
 module _ {n w least count : ℕ} {costs : List ℕ} (d : Dealing n w count costs) where
@@ -93,21 +89,19 @@ module _ {n w least count : ℕ} {costs : List ℕ} (d : Dealing n w count costs
         (λ j l _. le-ltb (getD costs′ j 0) (getD costs′ k 0) (omega (arith, p .under j l)))
         (λ j l _. lt-ltb (getD costs′ k 0) (getD costs′ j 0) (omega (arith, p .above j l))))
 
-    pub passed-dealt : getD costs′ k 0 ≡ least → 0 < left → Passed n w least count costs (k + 1) (left - 1) (set costs′ k (getD costs′ k 0 + w))
-    unfolding dealtOn dealtOne addedTo
+    pub passed-dealt : getD costs′ k 0 ≡ least → 0 < left → Passed n w least count costs (k + 1) (left - 1) (addedTo k w costs′)
+    unfolding dealtOn dealtOne
     passed-dealt e some =
-        let v = getD costs′ k 0 + w in
-        let there : k < length costs′ = omega (arith, passed-long, d .agents) in
-        let same : getD (set costs′ k v) k 0 ≡ v = getD-set-same costs′ k v 0 there in
-        let apart : (j : ℕ) → (j ≡ k → ⊥) → getD (set costs′ k v) j 0 ≡ getD costs′ j 0 = λ j. getD-set-other costs′ k j v 0 in
+        let here = added-here k w costs′ (omega (arith, passed-long, d .agents)) in
+        let apart = added-other k w costs′ in
         record {
           within = omega arith;
           remain = omega (arith, p .remain);
           dealt =
               let one : count - (left - 1) ≡ suc (count - left) = omega (arith, p .remain) in
               rw (one, ← p .dealt, this-cheapest e);
-          above = below-more (λ j. least < getD (set costs′ k v) j 0) k (λ j l. rw (apart j (λ q. omega arith)) (p .above j l)) (rw same (omega (arith, d .positive)));
-          under = λ j l. by-same j k (λ q. rw (q, same) (omega arith)) (λ ne. rw (apart j ne) (p .under j l));
+          above = below-more (λ j. least < getD (addedTo k w costs′) j 0) k (λ j l. rw (apart j (λ q. omega arith)) (p .above j l)) (rw here (omega (arith, d .positive)));
+          under = λ j l. by-same j k (λ q. rw (q, here) (omega arith)) (λ ne. rw (apart j ne) (p .under j l));
         }
 
   -- all have been passed, or no chore is left

@@ -4,13 +4,12 @@
 use Prim.Native.Nat.{ℕ, zero, suc, _+_, _*_, _-_, _≤_, _<_, _∣_}
 use mathlib.Core.Bool.{true}
 use mathlib.Core.List.{List}
-use mathlib.Core.Path.{_≡_, refl, sym, _∙_}
-use native.Mathlib.Nat.{le-refl, mul-suc, lt-of-mul-lt-mul-left, dvd-refl, dvd-add, dvd-sub, le-of-dvd}
+use mathlib.Core.Path.{_≡_, refl}
+use native.Mathlib.Nat.{mul-suc, lt-of-mul-lt-mul-left, dvd-refl, dvd-add, dvd-sub, le-of-dvd}
 use native.Mathlib.Omega.{arith}
 use lib.ListN.{length, getD, length-set}
 use lib.Seq.{getD-set-same, getD-set-other}
 use Rattle.finite.specs.Sums.{sumTo}
-use Rattle.finite.specs.Search.{chosen}
 use Rattle.finite.proofs.Below.{by-same}
 use Rattle.finite.proofs.Sums.{sum-const, sum-mono, sum-change}
 use Rattle.finite.proofs.Chosen.{smaller, smaller-order, chosen-found, smallest-le}
@@ -26,6 +25,20 @@ pub record Level (n w L : ℕ) (costs : List ℕ) : Type 0 where
   pub room : n ≤ length costs
   pub most : (k : ℕ) → k < n → getD costs k 0 ≤ L
   pub multiple : (k : ℕ) → k < n → w ∣ getD costs k 0
+
+-- one bundle costs w more, the others what they did
+module _ (k w : ℕ) (costs : List ℕ) where
+  pub added-long : length (addedTo k w costs) ≡ length costs
+  unfolding addedTo
+  added-long = length-set costs k (getD costs k 0 + w)
+
+  pub added-here : k < length costs → getD (addedTo k w costs) k 0 ≡ getD costs k 0 + w
+  unfolding addedTo
+  added-here = getD-set-same costs k (getD costs k 0 + w) 0
+
+  pub added-other : (j : ℕ) → (j ≡ k → ⊥) → getD (addedTo k w costs) j 0 ≡ getD costs j 0
+  unfolding addedTo
+  added-other j = getD-set-other costs k j (getD costs k 0 + w) 0
 
 -- the cheapest of n bundles, where there is one
 module _ {n : ℕ} (costs : List ℕ) (some : 0 < n) where
@@ -51,31 +64,27 @@ module _ {n w L : ℕ} {costs : List ℕ} (some : 0 < n) (positive : 0 < w) (top
       omega arith
 
   one-more : Level n w L (dealtOne n w costs)
-  unfolding dealtOne addedTo
+  unfolding dealtOne
   one-more =
       let v = cheapest n costs in
       let below : v < n = cheapest-below costs some in
-      let there : v < length costs = omega (arith, level .room) in
+      let here = added-here v w costs (omega (arith, level .room)) in
       record {
-        room = simp length-set (level .room);
-        most = λ k l.
-            by-same k v (λ e. rw (e, getD-set-same costs v (getD costs v 0 + w) 0 there) least-fits)
-            (λ ne. rw (getD-set-other costs v k (getD costs v 0 + w) 0 ne) (level .most k l));
+        room = rw (added-long v w costs) (level .room);
+        most = λ k l. by-same k v (λ e. rw (e, here) least-fits) (λ ne. rw (added-other v w costs k ne) (level .most k l));
         multiple = λ k l.
-            by-same k v
-            (λ e. rw (e, getD-set-same costs v (getD costs v 0 + w) 0 there) (dvd-add w (level .multiple v below) (dvd-refl w)))
-            (λ ne. rw (getD-set-other costs v k (getD costs v 0 + w) 0 ne) (level .multiple k l));
+            by-same k v (λ e. rw (e, here) (dvd-add w (level .multiple v below) (dvd-refl w)))
+            (λ ne. rw (added-other v w costs k ne) (level .multiple k l));
       }
 
 -- what they cost together grows by w
 one-in-all : {n : ℕ} (w : ℕ) (costs : List ℕ) → 0 < n → n ≤ length costs → inAll n (dealtOne n w costs) ≡ inAll n costs + w
-unfolding dealtOne addedTo
+unfolding dealtOne
 one-in-all {n} w costs some room =
     let v = cheapest n costs in
     let below : v < n = cheapest-below costs some in
-    let there : v < length costs = omega arith in
-    let new = getD-set-same costs v (getD costs v 0 + w) 0 there in
-    omega (arith, new, sum-change {n = n} {f = λ k. getD (dealtOne n w costs) k 0} {g = λ k. getD costs k 0} v below (λ k l ne. getD-set-other costs v k (getD costs v 0 + w) 0 ne))
+    let here = added-here v w costs (omega arith) in
+    omega (arith, here, sum-change {n = n} {f = λ k. getD (addedTo v w costs) k 0} {g = λ k. getD costs k 0} v below (λ k l. added-other v w costs k))
 
 -- so many chores dealt, one after the other
 pub record Dealt (n w L : ℕ) (costs : List ℕ) (count : ℕ) : Type 0 where

@@ -1,32 +1,31 @@
 -- What the code for one agent's share makes of a sheet, and the list of all shares.
 -- Assumes nothing.
-use Prim.Native.Nat.{ℕ, _+_, _*_, _-_, _^_, _≤_, _<_, _∣_}
-use mathlib.Core.Bool.{true, false, not, Bool·not-not}
+use Prim.Native.Nat.{ℕ, _+_, _*_, _-_, _≤_}
+use mathlib.Core.Bool.{Bool·not-not}
 use mathlib.Core.List.{List}
-use mathlib.Core.Path.{_≡_, refl, sym, ap, ap₂, _∙_}
+use mathlib.Core.Path.{_≡_, ap, _∙_}
 use native.Mathlib.Nat.{le-trans, mul-le-mul}
 use native.Mathlib.Omega.{arith}
 use lib.ListN.{length, getD, replicate, length-replicate, getD-replicate}
 use Rattle.finite.specs.Sums.{sumWhere, countTo, maxTo}
 use Rattle.finite.proofs.Where.{where-test}
 use Rattle.finite.proofs.Counts.{count-le, count-not}
-use Rattle.finite.proofs.Extremes.{top-cong}
 use Rattle.model.specs.Limits.{maxAgents, maxChores, maxWeight}
-use Rattle.model.specs.Sheet.{agentsOf, choresOf, easyWeight, difficultWeight, isDifficult, marksEasy, difficultMarks, asMarked}
-use Rattle.model.specs.MaximinShare.{costliestBundle, bundleCost, maximinShare, dealt}
+use Rattle.model.specs.Sheet.{choresOf, easyWeight, difficultWeight, isDifficult, marksEasy, difficultMarks, asMarked}
+use Rattle.model.specs.MaximinShare.{maximinShare}
 use Rattle.measures.specs.Dealing.{dealtOn, Dealing, Measurable}
-use Rattle.measures.proofs.Bearable.{burdens, reliefs}
+use Rattle.measures.proofs.Bearable.{difficultCount, easyCount}
 use Rattle.measures.proofs.Dealing.{dealt-long, dealt-at-most}
 use Rattle.measures.proofs.Shares.{dealtCosts, dealt-top, share-dealt}
 
 -- an agent's difficult chores are its difficult marks, and its easy ones the others
-burdens-are : (s : List ℕ) (i : ℕ) → burdens (asMarked s) i ≡ difficultMarks s i
+difficult-marked : (s : List ℕ) (i : ℕ) → difficultCount (asMarked s) i ≡ difficultMarks s i
 unfolding asMarked marksEasy difficultMarks countTo sumWhere
-burdens-are s i = where-test (choresOf s) (λ c. 1) (λ c l. Bool·not-not (isDifficult s i c))
+difficult-marked s i = where-test (choresOf s) (λ c. 1) (λ c l. Bool·not-not (isDifficult s i c))
 
-reliefs-are : (s : List ℕ) (i : ℕ) → reliefs (asMarked s) i ≡ choresOf s - difficultMarks s i
+easy-marked : (s : List ℕ) (i : ℕ) → easyCount (asMarked s) i ≡ choresOf s - difficultMarks s i
 unfolding asMarked
-reliefs-are s i = omega (arith, count-not (choresOf s) (marksEasy s i), burdens-are s i)
+easy-marked s i = omega (arith, count-not (choresOf s) (marksEasy s i), difficult-marked s i)
 
 module _ {s : List ℕ} {n m i : ℕ} (g : Measurable s n m i) {difficult : ℕ} (marks : difficult ≡ difficultMarks s i) where
   pub few-marks : difficult ≤ m
@@ -77,5 +76,5 @@ module _ {s : List ℕ} {n m i : ℕ} (g : Measurable s n m i) {difficult : ℕ}
       share-found {r} {costs″} second top =
           let ok = g .valid in
           let I = asMarked s in
-          let same : costs″ ≡ dealtCosts I i maxAgents = rw (second, first, zeros, light, weight, marks, g .agents, g .chores, burdens-are s i, reliefs-are s i) in
+          let same : costs″ ≡ dealtCosts I i maxAgents = rw (second, first, zeros, light, weight, marks, g .agents, g .chores, difficult-marked s i, easy-marked s i) in
           rw (top, same, g .agents, dealt-top I i (ok .someAgent) maxAgents (ok .agentsFit), share-dealt I i (ok .someAgent) (ok .easyPositive) (omega (arith, ok .easier)) (g .divides))

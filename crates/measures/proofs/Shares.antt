@@ -1,34 +1,33 @@
 -- Dealing finds the maximin share where b is a multiple of a: any partition's costliest bundle bounds every bundle that is dealt.
 -- Assumes nothing.
 use Prim.Native.Nat.{ℕ, _+_, _*_, _/_, _≤_, _<_, _∣_}
-use mathlib.Core.Bool.{Bool, true, false, not}
+use mathlib.Core.Bool.{not}
 use mathlib.Core.List.{List}
-use mathlib.Core.Path.{_≡_, refl, sym, ap, _∙_}
+use mathlib.Core.Path.{_≡_, refl, sym, _∙_}
 use native.Mathlib.Nat.{le-refl, le-trans, le-of-eq, mul-le-mul-left, mul-div-le, dvd-zero, dvd-trans, dvd-mul-right}
 use native.Mathlib.Omega.{arith}
-use lib.Dec.{eqb}
 use lib.ListN.{length, getD, replicate, length-replicate, getD-replicate}
 use borrow.Author.Tests.{ne-eqb, not-true}
 use Rattle.finite.specs.Sums.{maxTo}
 use Rattle.finite.specs.Lists.{Picks, Table}
-use Rattle.finite.proofs.Tests.{by-test, clash, not-on, not-off, cond-true, cond-false}
+use Rattle.finite.proofs.Tests.{by-test, not-on, not-off, cond-true, cond-false}
 use Rattle.finite.proofs.Sums.{sum-none}
 use Rattle.finite.proofs.Where.{where-none}
 use Rattle.finite.proofs.Extremes.{top-above, top-at-most, top-cong}
 use Rattle.finite.proofs.Sweeps.{table-zeros}
 use Rattle.finite.proofs.LeastList.{least-under, least-unique}
 use Rattle.model.specs.Instance.{Instance, cost}
-use Rattle.model.specs.MaximinShare.{isPartition, inBundle, bundleCost, costliestBundle, maximinShare, dealKind, dealt}
+use Rattle.model.specs.MaximinShare.{inBundle, bundleCost, costliestBundle, maximinShare, dealKind, dealt}
 use Rattle.model.specs.Promises.{Secured}
 use Rattle.model.proofs.Allocations.{allocation-picks, picks-allocation}
 use Rattle.measures.specs.Dealing.{dealtOn}
 use Rattle.measures.proofs.Levels.{inAll, Level, dealt-level}
-use Rattle.measures.proofs.Bearable.{burdens, reliefs, Bearable, whole-cost, bearable}
+use Rattle.measures.proofs.Bearable.{difficultCount, easyCount, Bearable, whole-cost, bearable}
 use Rattle.measures.proofs.Bundles.{Placed, placed, kind-costs}
 
 -- what the bundles cost when agent i's chores are dealt: the difficult ones, then the easy ones
 abbrev pub dealtCosts : Instance → ℕ → ℕ → List ℕ
-dealtCosts I i size = dealtOn (I .n) (I .a) (reliefs I i) (dealtOn (I .n) (I .b) (burdens I i) (replicate size 0))
+dealtCosts I i size = dealtOn (I .n) (I .a) (easyCount I i) (dealtOn (I .n) (I .b) (difficultCount I i) (replicate size 0))
 
 module _ (I : Instance) (i : ℕ) (some : 0 < I .n) where
   -- no chore is in a bundle
@@ -40,20 +39,20 @@ module _ (I : Instance) (i : ℕ) (some : 0 < I .n) where
   none-long = length-replicate (I .m) 0
 
   -- the difficult ones are dealt
-  burdensDealt : List ℕ
-  burdensDealt = dealKind I i (λ c. not (I .easy i c)) (I .m) none
+  difficultDealt : List ℕ
+  difficultDealt = dealKind I i (λ c. not (I .easy i c)) (I .m) none
 
-  burdens-placed : Placed (I .n) (λ c. not (I .easy i c)) (I .m) none burdensDealt
-  unfolding burdensDealt
-  burdens-placed = placed I i some (λ c. not (I .easy i c)) (I .m) none (le-of-eq (sym none-long))
+  difficult-placed : Placed (I .n) (λ c. not (I .easy i c)) (I .m) none difficultDealt
+  unfolding difficultDealt
+  difficult-placed = placed I i some (λ c. not (I .easy i c)) (I .m) none (le-of-eq (sym none-long))
 
-  long : length burdensDealt ≡ I .m
-  long = burdens-placed .size ∙ none-long
+  long : length difficultDealt ≡ I .m
+  long = difficult-placed .size ∙ none-long
 
   -- then the easy ones
-  all-placed : Placed (I .n) (I .easy i) (I .m) burdensDealt (dealt I i)
-  unfolding burdensDealt none dealt
-  all-placed = placed I i some (I .easy i) (I .m) burdensDealt (le-of-eq (sym long))
+  all-placed : Placed (I .n) (I .easy i) (I .m) difficultDealt (dealt I i)
+  unfolding difficultDealt none dealt
+  all-placed = placed I i some (I .easy i) (I .m) difficultDealt (le-of-eq (sym long))
 
   pub dealt-picks : Picks (I .n) (I .m) (dealt I i)
   dealt-picks =
@@ -61,10 +60,10 @@ module _ (I : Instance) (i : ℕ) (some : 0 < I .n) where
         size = all-placed .size ∙ long;
         positive = λ c l.
             by-test (I .easy i c) (all-placed .positive c l)
-            (λ e. rw (all-placed .other c e) (burdens-placed .positive c l (not-on e)));
+            (λ e. rw (all-placed .other c e) (difficult-placed .positive c l (not-on e)));
         bounded = λ c l.
             by-test (I .easy i c) (all-placed .bounded c l)
-            (λ e. rw (all-placed .other c e) (burdens-placed .bounded c l (not-on e)));
+            (λ e. rw (all-placed .other c e) (difficult-placed .bounded c l (not-on e)));
       }
 
   -- what the bundles then cost
@@ -77,11 +76,11 @@ module _ (I : Instance) (i : ℕ) (some : 0 < I .n) where
         refl
 
     dealt-costs : Table size (bundleCost I i (dealt I i)) (dealtCosts I i size)
-    unfolding dealt burdensDealt none cost
+    unfolding dealt difficultDealt none cost
     dealt-costs =
-        kind-costs I i size some fits (I .easy i) (I .a) burdensDealt long
+        kind-costs I i size some fits (I .easy i) (I .a) difficultDealt long
         (λ c l e. cond-true (I .a) (I .b) e)
-        (λ c l e. burdens-placed .other c (not-off e) ∙ getD-replicate (I .m) c 0 0 l)
+        (λ c l e. difficult-placed .other c (not-off e) ∙ getD-replicate (I .m) c 0 0 l)
         (I .m) (le-refl _)
         (kind-costs I i size some fits (λ c. not (I .easy i c)) (I .b) none none-long
         (λ c l e. cond-false (I .a) (I .b) (not-true (I .easy i c) e))
@@ -111,10 +110,10 @@ module _ (I : Instance) (i : ℕ) (some : 0 < I .n) (easy : 0 < I .a) (difficult
       let L = I .b * (M / I .b) in
       let low : L ≤ M = mul-div-le M (I .b) in
       let empty : inAll n zeros ≡ 0 = sum-none n (λ k l. getD-replicate n k 0 0 l) in
-      let room : I .b * burdens I i ≤ n * L = omega (arith, mul-le-mul-left (I .b) (B .difficult)) in
-      let one = dealt-level some difficult (dvd-mul-right (I .b) (M / I .b)) (level-none (I .b) L n (le-refl n)) (burdens I i) (omega arith) in
-      let start : Level n (I .a) M (dealtOn n (I .b) (burdens I i) zeros) = record { room = one .level .room; most = λ k l. le-trans (one .level .most k l) low; multiple = λ k l. dvd-trans (I .a) divides (one .level .multiple k l) } in
-      dealt-level some easy (B .multiple) start (reliefs I i) (omega (arith, one .together, whole-cost I i, B .costs)) .level
+      let room : I .b * difficultCount I i ≤ n * L = omega (arith, mul-le-mul-left (I .b) (B .difficult)) in
+      let one = dealt-level some difficult (dvd-mul-right (I .b) (M / I .b)) (level-none (I .b) L n (le-refl n)) (difficultCount I i) (omega arith) in
+      let start : Level n (I .a) M (dealtOn n (I .b) (difficultCount I i) zeros) = record { room = one .level .room; most = λ k l. le-trans (one .level .most k l) low; multiple = λ k l. dvd-trans (I .a) divides (one .level .multiple k l) } in
+      dealt-level some easy (B .multiple) start (easyCount I i) (omega (arith, one .together, whole-cost I i, B .costs)) .level
 
   bundles-within : {M : ℕ} → Bearable I i M → (k : ℕ) → k < I .n → bundleCost I i (dealt I i) k ≤ M
   bundles-within B k l = rw (← dealt-costs I i some (I .n) (le-refl _) .entry k l) (levels B .most k l)

@@ -1,16 +1,13 @@
 -- `measures::costliest` meets its contract. The loop's invariant: `most` is the greatest of the costs passed.
-use Prim.Native.Nat.{ℕ, _-_, _≤_}
+use Prim.Native.Nat.{_-_, _≤_}
 use mathlib.Core.Logic.{⊎-elim}
 use mathlib.Core.Path.{_≡_, ap, _∙_}
 use native.Mathlib.Omega.{arith}
 use lib.ListN.{getD}
-use borrow.Author.Needs.{needs}
 use Rattle.finite.specs.Sums.{maxTo}
 use Rattle.finite.proofs.Extremes.{top-zero, top-next}
 use Rattle.measures.proofs.costliest.Statement.{statement}
 use Rattle.measures.proofs.costliest.Tie as tie
-use Rattle.measures.proofs.costliest.Reads as reads
-use Rattle.measures.proofs.costliest.Lts as lts
 
 abbrev Inv-loop : tie.InvT-loop
 Inv-loop n costs most₀ k₀ most k = (k ≤ n) × (most ≡ maxTo k (λ j. getD costs j 0))

@@ -1,24 +1,17 @@
-use Prim.Native.Nat.{ℕ, _+_, _-_, _*_, _≤_, _<_}
+-- `measures::measures_over` meets its contract. The loop's invariant: the first i entries are the shares of the first i agents.
+use Prim.Native.Nat.{_-_, _≤_, _<_}
 use mathlib.Core.Path.{_≡_, refl, sym, ap, _∙_}
-use mathlib.Core.Logic.{⊎-elim}
-use native.Mathlib.Omega.{arith}
-use lib.ListN.{length, getD, set, length-set}
-use borrow.Author.Needs.{needs}
 use mathlib.Core.List.{_++_}
-use lib.ListN.{take, drop}
-use Rattle.model.specs.MaximinShare.{measuresOf}
+use native.Mathlib.Omega.{arith}
+use lib.ListN.{length, set, take, drop}
+use borrow.Author.Needs.{needs}
 use Rattle.finite.proofs.Lists.{over-next}
+use Rattle.model.specs.MaximinShare.{measuresOf}
 use Rattle.model.specs.Limits.{maxAgents}
 use Rattle.model.specs.Sheet.{agentsOf}
 use Rattle.measures.proofs.Answering.{measures-valid, measures-divide, measures-long, measures-at, turned-down, told}
 use Rattle.measures.proofs.measures_over.Statement.{statement}
 use Rattle.measures.proofs.measures_over.Tie as tie
-use Rattle.measures.proofs.measures_over.Reads as reads
-use Rattle.measures.proofs.measures_over.Lts as lts
-use Rattle.measures.proofs.measures_refusal.Reads as measures-refusal-reads
-use Rattle.measures.proofs.share.Reads as share-reads
-use Rattle.sheet.proofs.agents.Reads as agents-reads
-use Rattle.sheet.proofs.chores.Reads as chores-reads
 
 abbrev Inv-loop : tie.InvT-loop
 Inv-loop sheet numbers₀ refusal n m i₀ numbers i =
@@ -27,32 +20,26 @@ Inv-loop sheet numbers₀ refusal n m i₀ numbers i =
 abbrev μ-loop : tie.MeasureT-loop
 μ-loop sheet numbers₀ refusal n m i₀ numbers i = n - i
 
--- src/lib.rt:98:9
 measures-refusal-requires : tie.Need-measures-refusal-requires Inv-loop μ-loop
 measures-refusal-requires c κs = search needs
 
--- src/lib.rt:100:9
 returns : tie.Need-returns Inv-loop μ-loop
 returns c = turned-down _ _ (c .before .measures-refusal .ensures) (c .if1 .taken) refl
 
--- src/lib.rt:102:9
 agents-requires : tie.Need-agents-requires Inv-loop μ-loop
 agents-requires c κs = measures-valid _ (sym (c .before .measures-refusal .ensures) ∙ c .if1 .left) .header
 
--- src/lib.rt:103:9
 chores-requires : tie.Need-chores-requires Inv-loop μ-loop
 chores-requires c κs =
     let fine = c .before in
     measures-valid _ (sym (fine .before .measures-refusal .ensures) ∙ fine .if1 .left) .header
 
--- src/lib.rt:105:5
 loop-holds : tie.Need-loop-holds Inv-loop μ-loop
 loop-holds c =
     let fine = c .before .before in
     let z = sym (fine .before .measures-refusal .ensures) ∙ fine .if1 .left in
     (omega arith, rw (c .before .agents .ensures .is) (measures-valid _ z .agentsFit), refl)
 
--- src/lib.rt:106:22
 share-requires : tie.Need-share-requires Inv-loop μ-loop
 share-requires c κs =
     let read = c .before .before in
@@ -66,23 +53,18 @@ share-requires c κs =
       agent = rw (← read .before .agents .ensures .is) (omega arith);
     }
 
--- src/lib.rt:106:9
 mul-numbers : tie.Need-mul-numbers Inv-loop μ-loop
 mul-numbers c = omega arith
 
--- src/lib.rt:106:9
 array-write-numbers : tie.Need-array-write-numbers Inv-loop μ-loop
 array-write-numbers c = omega arith
 
--- src/lib.rt:107:9
 add-i : tie.Need-add-i Inv-loop μ-loop
 add-i c = search needs
 
--- src/lib.rt:105:5
 loop-less : tie.Need-loop-less Inv-loop μ-loop
 loop-less c = search needs
 
--- src/lib.rt:105:5
 loop-again : tie.Need-loop-again Inv-loop μ-loop
 loop-again c =
     let loop = c .before .before .loop in
@@ -97,7 +79,6 @@ loop-again c =
           ∙ over-next (measuresOf (args .sheet .now)) (args .before) (rw (measures-long (args .sheet .now)) agent) (omega (arith, entries)) (c .share .ensures ∙ sym (measures-at (args .sheet .now) (loop .i) agent)),
     )
 
--- src/lib.rt:94:1
 returns-2 : tie.Need-returns-2 Inv-loop μ-loop
 returns-2 c =
     let loop = c .before .loop in
