@@ -7,7 +7,9 @@ pub fn measures(sheet: &[u8], measures: &mut [u32; model::MAX_AGENTS]) -> u8
     ensures { λ r. ⌜ MeasuredInC (now (sheet .entry)) (now (measures .entry)) (now (measures .exit)) r ⌝ }
 {
     let answer = measures::measures_over(sheet, *measures);
-    let numbers = answer.numbers;
-    *measures = numbers;
+    if answer.refusal == 0 {
+        let numbers = answer.numbers;
+        *measures = numbers;
+    }
     answer.refusal
 }
