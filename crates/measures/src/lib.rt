@@ -12,7 +12,7 @@ ghost use Rattle.model.specs.Refusals.{measuresRefusal};
 ghost use Rattle.model.specs.Promises.{Measured};
 ghost use Rattle.measures.specs.Dealing.{cheapest, dealtOn, Dealing, LevelDealt, Measurable};
 
-// One chore for each bundle that costs `least`, in their order, while there are chores left: none of the others is the cheapest before them.
+// One chore for each bundle that costs `least`, in their order, while there are chores left: each of them is the cheapest when its turn comes.
 // Returns how many are left.
 fn deal_level(
     n: usize,
@@ -37,7 +37,7 @@ fn deal_level(
     left
 }
 
-// Chores of one cost, each to the first of the cheapest bundles.
+// Chores of one cost, each to the first of the cheapest bundles. These are looked for once a level, not once a chore.
 fn deal(n: usize, weight: u32, count: usize, costs: &mut [u32; model::MAX_AGENTS])
     requires { ⌜ Dealing n weight count (now costs) ⌝ }
     ensures { λ _. ⌜ now (costs .exit) ≡ dealtOn n weight count (now (costs .entry)) ⌝ }
@@ -93,7 +93,7 @@ fn measures_refusal(sheet: &[u8]) -> u8
     sheet::when(14, b % a != 0)
 }
 
-// The numbers of the agents in the first entries of a list; the others stay, and with a refusal all of them do.
+// The numbers of the agents in the first entries of a list. The others keep what they held, and with a refusal all of them do.
 pub fn measures_over(sheet: &[u8], before: [u32; model::MAX_AGENTS]) -> model::Measures
     ensures { λ r. ⌜ Measured (now (sheet .entry)) before r ⌝ }
 {

@@ -179,21 +179,21 @@ pub record MarksShown (first second : List ℕ) (person chore refusal : ℕ) (ma
   -- they are the joined sheet's marks of that person for that strand
   pub onJoined : refusal ≡ 0 → OnJoined first second person chore marks
 
--- The number v for agent i, by the partitions of an instance.
+-- The number v is agent i's own measure.
 pub record Secured (I : Instance) (i v : ℕ) : Type 0 where
   -- "no split does better"
   pub least : (y : List ℕ) → isPartition I y ≡ true → v ≤ costliestBundle I i y
-  -- dealing makes a split,
+  -- what is dealt is a split,
   pub partition : isPartition I (dealt I i) ≡ true
   -- and "each pile dealt costs at most the number returned"
   pub within : (k : ℕ) → k < I .n → bundleCost I i (dealt I i) k ≤ v
 
--- The numbers of the n agents over the first entries of a list; where that is refused the list stays.
+-- A list with the numbers of the n agents in its first entries. The rest of it keeps its content, and with a refusal all of it does.
 unfoldable pub measuresOver : List ℕ → List ℕ → List ℕ
 measuresOver s before = cond (eqb (measuresRefusal s) 0) (measuresOf s ++ drop (agentsOf s) before) before
 
--- Everyone's own measure, written over the entries of a list. It is for `measures(sheet)`, which "writes nothing that is lent", a list of zeros:
--- 0 stands in the entries after the last agent's, and in all of them with a refusal.
+-- Everyone's own measure: `measures(sheet)`, which "writes nothing that is lent", answers a list that held zeros before. For C it is one that is
+-- lent: `measures_over(sheet, before)`.
 pub record Measured (s before : List ℕ) (r : Measures) : Type 0 where
   pub answer : r .refusal ≡ measuresRefusal s
   pub numbers : r .numbers ≡ measuresOver s before

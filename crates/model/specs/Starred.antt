@@ -266,7 +266,7 @@ table =
     -- each agent by its own marks; "Here rows are taken as marked.": a row of difficult marks only too
     ∷ measured sheetC (3 ∷ 7 ∷ [])
     ∷ measured (sheet 1 3 ("eee" ∷ "ddd" ∷ [])) (2 ∷ 6 ∷ [])
-    -- an easy chore beside each of two difficult ones, and both beside neither
+    -- weights of 2 and 6: an easy chore beside a difficult one, and two easy ones beside each other
     ∷ measured (sheet 2 6 ("edd" ∷ "eed" ∷ [])) (8 ∷ 6 ∷ [])
     -- dealing: "difficult ones first", so that two easy ones lie together; each kind by number, and of several cheapest piles to the first
     ∷ dealt-into (sheet 1 2 ("eed" ∷ "eee" ∷ [])) 1 (2 ∷ 2 ∷ 1 ∷ [])
