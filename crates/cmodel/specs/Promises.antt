@@ -94,7 +94,7 @@ pub record JoinedInC (first second lent lent′ : List ℕ) (written written′ 
   -- "The joined sheet is written at the start of a lent list"; with a refusal all of it keeps its content
   pub atExit : lent′ ≡ joinedOver first second lent
   pub writtenAtExit : written′ ≡ cond (eqb r 0) (length (joinedSheet first second)) written
-  -- what was written breaks no rule, so every call takes it
+  -- what was written breaks no rule
   pub taken : r ≡ 0 → sheetRefusal (take written′ lent′) ≡ 0
 
 -- The marks of a person out of the sheet that holds a chore: which of the two sheets it is, where the row starts there, and its size.

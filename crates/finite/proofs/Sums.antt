@@ -1,8 +1,8 @@
 -- Laws of sums over the numbers below a bound.
 -- Assumes nothing.
-use Prim.Native.Nat.{ℕ, zero, suc, _+_, _*_, _≤_, _<_}
+use Prim.Native.Nat.{ℕ, zero, suc, _+_, _*_, _≤_, _<_, _∣_}
 use mathlib.Core.Path.{_≡_, refl, sym, ap, ap₂, _∙_}
-use native.Mathlib.Nat.{le-refl, add-zero, add-suc, mul-zero, zero-mul, suc-mul, mul-add}
+use native.Mathlib.Nat.{le-refl, add-zero, add-suc, mul-zero, zero-mul, suc-mul, mul-add, dvd-zero, dvd-add}
 use native.Mathlib.Numerals.{add-one}
 use native.Mathlib.Omega.{arith}
 use Rattle.finite.specs.Sums.{sumTo}
@@ -49,6 +49,12 @@ pub sum-const : (n k : ℕ) → sumTo n (λ c. k) ≡ n * k
 unfolding sumTo
 sum-const zero k = sym (zero-mul k)
 sum-const (suc j) k = rw (sum-const j k, suc-mul)
+
+-- a sum of multiples
+pub sum-multiple : (n k : ℕ) {f : ℕ → ℕ} → ((c : ℕ) → k ∣ f c) → k ∣ sumTo n f
+unfolding sumTo
+sum-multiple zero k h = dvd-zero k
+sum-multiple (suc j) k h = dvd-add k (sum-multiple j k h) (h j)
 
 pub sum-at-most : (n b : ℕ) {f : ℕ → ℕ} → ((c : ℕ) → c < n → f c ≤ b) → sumTo n f ≤ n * b
 sum-at-most n b h = rw (← sum-const n b) (sum-mono n h)

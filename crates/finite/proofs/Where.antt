@@ -1,15 +1,15 @@
 -- Laws of sums over the numbers below a bound that pass a test.
 -- Assumes nothing.
-use Prim.Native.Nat.{ℕ, _+_, _*_, _≤_, _<_}
+use Prim.Native.Nat.{ℕ, _+_, _*_, _≤_, _<_, _∣_}
 use mathlib.Core.Bool.{Bool, true, false, cond, not, _&&_}
 use mathlib.Core.Path.{_≡_, refl, sym, _∙_}
-use native.Mathlib.Nat.{le-refl, add-zero}
+use native.Mathlib.Nat.{le-refl, add-zero, dvd-zero}
 use native.Mathlib.Omega.{arith}
 use lib.Dec.{eqb}
 use borrow.Author.Tests.{ne-eqb}
 use Rattle.finite.specs.Sums.{sumTo, sumWhere, maxWhere}
-use Rattle.finite.proofs.Tests.{by-test, clash, cond-true, cond-false, cond-cong, cond-mono, cond-scale, cond-same, and-no-right, and-keep, not-off, eqb-same}
-use Rattle.finite.proofs.Sums.{sum-next, sum-cong, sum-mono, sum-strict, sum-add, sum-scale, sum-none, sum-change, sum-single, sum-point, sum-less, sum-split}
+use Rattle.finite.proofs.Tests.{by-test, by-cond, clash, cond-true, cond-false, cond-cong, cond-mono, cond-scale, cond-same, and-no-right, and-keep, not-off, eqb-same}
+use Rattle.finite.proofs.Sums.{sum-next, sum-cong, sum-mono, sum-strict, sum-add, sum-scale, sum-multiple, sum-none, sum-change, sum-single, sum-point, sum-less, sum-split}
 use Rattle.finite.proofs.Extremes.{peak-at-most}
 
 pub where-zero : (t : ℕ → Bool) (f : ℕ → ℕ) → sumWhere 0 t f ≡ 0
@@ -93,6 +93,10 @@ where-scale-eq n k l t f g h = sym (where-scale n k t f) ∙ where-value n t h �
 
 pub where-scale-le : (n k l : ℕ) (t : ℕ → Bool) (f g : ℕ → ℕ) → ((c : ℕ) → c < n → t c ≡ true → k * f c ≤ l * g c) → k * sumWhere n t f ≤ l * sumWhere n t g
 where-scale-le n k l t f g h = rw (← where-scale n k t f, ← where-scale n l t g) (where-le n t h)
+
+pub where-multiple : (n k : ℕ) (t : ℕ → Bool) {f : ℕ → ℕ} → ((c : ℕ) → k ∣ f c) → k ∣ sumWhere n t f
+unfolding sumWhere
+where-multiple n k t {f} h = sum-multiple n k (λ c. by-cond (λ v. k ∣ v) (t c) (f c) 0 (λ _. h c) (λ _. dvd-zero k))
 
 -- a second test splits the sum
 pub where-split : (n : ℕ) (t u : ℕ → Bool) (f : ℕ → ℕ) → sumWhere n t f ≡ sumWhere n (λ c. t c && u c) f + sumWhere n (λ c. t c && not (u c)) f

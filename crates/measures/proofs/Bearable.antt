@@ -1,10 +1,10 @@
 -- What any partition says of its costliest bundle: all chores together, and the difficult ones by themselves, fit n bundles that cost so much.
 -- Assumes nothing.
-use Prim.Native.Nat.{ℕ, zero, suc, _+_, _*_, _-_, _/_, _≤_, _<_, _∣_}
+use Prim.Native.Nat.{ℕ, _+_, _*_, _-_, _/_, _≤_, _<_, _∣_}
 use mathlib.Core.Bool.{Bool, true, false, cond, not}
 use mathlib.Core.List.{List}
 use mathlib.Core.Path.{_≡_, _∙_}
-use native.Mathlib.Nat.{mul-comm, mul-zero, mul-one, le-div-iff-mul-le, dvd-refl, dvd-zero, dvd-add}
+use native.Mathlib.Nat.{mul-comm, mul-zero, mul-one, le-div-iff-mul-le, dvd-refl}
 use native.Mathlib.Omega.{arith}
 use lib.Dec.{eqb}
 use lib.ListN.{getD}
@@ -13,7 +13,7 @@ use Rattle.finite.specs.Sums.{sumTo, sumWhere, countTo}
 use Rattle.finite.specs.Lists.{Picks}
 use Rattle.finite.proofs.Tests.{bool-eq, by-cond, cond-false}
 use Rattle.finite.proofs.Sums.{sum-cong, sum-at-most}
-use Rattle.finite.proofs.Where.{where-test, where-value, where-scale-le, where-not}
+use Rattle.finite.proofs.Where.{where-multiple, where-test, where-value, where-scale-le, where-not}
 use Rattle.finite.proofs.Counts.{where-const}
 use Rattle.finite.proofs.Extremes.{top-above, top-attained}
 use Rattle.finite.proofs.Fibres.{fibres}
@@ -46,16 +46,6 @@ whole-cost I i =
     let easy : sumWhere m e (cost I i) ≡ easyCount I i * I .a = where-value m e (λ c l p. rw p) ∙ where-const m (I .a) e in
     let hard : sumWhere m (λ c. not (e c)) (cost I i) ≡ difficultCount I i * I .b = where-value m (λ c. not (e c)) (λ c l p. cond-false (I .a) (I .b) (not-true (e c) p)) ∙ where-const m (I .b) (λ c. not (e c)) in
     omega (arith, where-not m e (cost I i), easy, hard, mul-comm (easyCount I i) (I .a), mul-comm (difficultCount I i) (I .b))
-
--- a sum of multiples
-sum-multiple : (n w : ℕ) {f : ℕ → ℕ} → ((c : ℕ) → w ∣ f c) → w ∣ sumTo n f
-unfolding sumTo
-sum-multiple zero w h = dvd-zero w
-sum-multiple (suc k) w h = dvd-add w (sum-multiple k w h) (h k)
-
-where-multiple : (n w : ℕ) (t : ℕ → Bool) {f : ℕ → ℕ} → ((c : ℕ) → w ∣ f c) → w ∣ sumWhere n t f
-unfolding sumWhere
-where-multiple n w t {f} h = sum-multiple n w (λ c. by-cond (λ v. w ∣ v) (t c) (f c) 0 (λ _. h c) (λ _. dvd-zero w))
 
 cost-multiple : (I : Instance) (i c : ℕ) → I .a ∣ I .b → I .a ∣ cost I i c
 unfolding cost

@@ -165,7 +165,7 @@ joinedOver first second lent =
 pub record SheetsJoined (first second lent lent′ : List ℕ) (r : Join) : Type 0 where
   pub answer : joinReply r ≡ unlessRefused (joinRefusal first second (length lent)) (joined (length (joinedSheet first second)))
   pub atExit : lent′ ≡ joinedOver first second lent
-  -- the joined sheet breaks no rule, so every call takes it
+  -- the joined sheet breaks no rule, so every call takes it, the measures where they take the strands
   pub taken : joinRefusal first second (length lent) ≡ 0 → sheetRefusal (joinedSheet first second) ≡ 0
 
 -- The marks that are shown, and none where that is refused.
