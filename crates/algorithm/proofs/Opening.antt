@@ -13,8 +13,8 @@ use Rattle.finite.specs.Lists.{tabulate, Picks}
 use Rattle.finite.proofs.Tests.{by-test, clash, and-intro, or-left, or-right, not-on, cond-not}
 use Rattle.finite.proofs.Search.{any-elim, first-some, first-passes}
 use Rattle.finite.proofs.Lists.{tab-length, tab-at}
-use Rattle.finite.proofs.Chosen.{chosen-cong, smaller-order}
-use Rattle.finite.proofs.Running.{chosen-some}
+use Rattle.finite.proofs.Chosen.{chosen-cong}
+use Rattle.finite.proofs.Running.{smallest-some}
 use Rattle.model.specs.Instance.{Instance, ownerOf, priceOf}
 use Rattle.model.specs.Fairness.{bundleSize, total}
 use Rattle.model.specs.Algorithm.{fewest, opensWith, openedBefore, openingOwner, openingPrice, opening, owner, price, group, isEntitled}
@@ -129,7 +129,7 @@ module _ (I : Instance) where
   unfolding openingOwner opensWith fewest
   opening-below c some =
       by-test (anyBelow (I .n) (λ i. I .easy i c)) (λ e. owner-easy c e .0)
-      (λ e. rw e (chosen-some (smaller-order (bundleSize c (λ d. getD (openedBefore I c) d 0))) (I .n) (λ i. true) 0 some refl))
+      (λ e. rw e (smallest-some (bundleSize c (λ d. getD (openedBefore I c) d 0)) some))
 
   pub opening-picks : 0 < I .n → Picks (I .n) (I .m) (opening I .owners)
   unfolding opening

@@ -3,18 +3,15 @@
 use Prim.Native.Nat.{ℕ}
 use mathlib.Core.List.{List}
 use mathlib.Core.Path.{_≡_, sym, _∙_}
-use borrow.Author.Tests.{ne-eqb}
-use Rattle.finite.proofs.Tests.{cond-false}
 use Rattle.model.specs.declared.Measures.{Measures}
-use Rattle.model.specs.Refusals.{measuresRefusal}
-use Rattle.model.specs.Promises.{Measured, measuresOver}
+use Rattle.model.specs.Promises.{Measured}
+use Rattle.measures.proofs.Answering.{over-refused}
 use Rattle.cmodel.specs.Promises.{MeasuredInC}
 
 pub left-alone : {s lent : List ℕ} {r : Measures} → Measured s lent r → (r .refusal ≡ 0 → ⊥) → MeasuredInC s lent lent (r .refusal)
-unfolding measuresOver
 left-alone {s} {lent} told some =
     record {
       answer = told .answer;
-      atExit = sym (cond-false _ lent (ne-eqb (measuresRefusal s) 0 (λ e. some (told .answer ∙ e))));
+      atExit = sym (over-refused s lent (λ e. some (told .answer ∙ e)));
       secured = λ e. absurd (some e);
     }

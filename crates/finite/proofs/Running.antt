@@ -2,7 +2,7 @@
 -- Assumes nothing.
 use Prim.Native.Nat.{ℕ, zero, suc, _+_, _≤_, _<_}
 use mathlib.Core.Bool.{Bool, true, false}
-use mathlib.Core.Path.{_≡_, sym, subst, _∙_}
+use mathlib.Core.Path.{_≡_, refl, sym, subst, _∙_}
 use native.Mathlib.Nat.{le-refl, le-of-lt}
 use native.Mathlib.Numerals.{add-one}
 use native.Mathlib.Omega.{arith}
@@ -10,7 +10,7 @@ use borrow.Author.Count.{below-none, below-more}
 use Rattle.finite.specs.Search.{chosen}
 use Rattle.finite.proofs.Tests.{by-test, clash, not-no}
 use Rattle.finite.proofs.Below.{by-less}
-use Rattle.finite.proofs.Chosen.{Chosen, Order, chosen-none, chosen-unique, chosen-more, chosen-intro, order-same}
+use Rattle.finite.proofs.Chosen.{Chosen, Order, smaller, smaller-order, chosen-none, chosen-unique, chosen-more, chosen-intro, order-same}
 
 -- r is the choice among the numbers below k; it is n where none of them passes
 pub record Running (n k : ℕ) (t : ℕ → Bool) (better : ℕ → ℕ → Bool) (r : ℕ) : Type 0 where
@@ -96,3 +96,7 @@ module _ {better : ℕ → ℕ → Bool} (o : Order better) (n : ℕ) (t : ℕ �
       let e = run-done (s .runs) in
       by-less (chosen n t better) n (λ h. h)
       (λ h. absurd (clash p (s .runs .none (omega (arith, s .runs .limit)) i l)))
+
+-- of some numbers one is the first of the smallest
+pub smallest-some : {n : ℕ} (f : ℕ → ℕ) → 0 < n → chosen n (λ k. true) (smaller f) < n
+smallest-some {n} f some = chosen-some (smaller-order f) n (λ k. true) 0 some refl

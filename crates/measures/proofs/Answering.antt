@@ -49,13 +49,17 @@ module _ (s : List ℕ) where
   unfolding measuresOf
   measures-at i l = tab-at (maximinShare (asMarked s)) i 0 l
 
+  -- a refusal leaves the list as it was
+  pub over-refused : (before : List ℕ) → (measuresRefusal s ≡ 0 → ⊥) → measuresOver s before ≡ before
+  unfolding measuresOver
+  over-refused before some = cond-false _ before (ne-eqb (measuresRefusal s) 0 some)
+
   module _ (before : List ℕ) {r : Measures} (answer : r .refusal ≡ measuresRefusal s) where
     pub turned-down : (r .refusal ≡ 0 → ⊥) → r .numbers ≡ before → Measured s before r
-    unfolding measuresOver
     turned-down some kept =
         record {
           answer = answer;
-          numbers = kept ∙ sym (cond-false _ before (ne-eqb (measuresRefusal s) 0 (λ e. some (answer ∙ e))));
+          numbers = kept ∙ sym (over-refused before (λ e. some (answer ∙ e)));
           secured = λ e. absurd (some e);
         }
 

@@ -15,8 +15,8 @@ use Rattle.finite.specs.Lists.{Table}
 use Rattle.finite.proofs.Tests.{by-test, by-cond, clash}
 use Rattle.finite.proofs.Below.{none-below, by-top}
 use Rattle.finite.proofs.Counts.{count-zero, count-hit, count-miss}
-use Rattle.finite.proofs.Chosen.{smaller-order, chosen-cong}
-use Rattle.finite.proofs.Running.{chosen-some}
+use Rattle.finite.proofs.Chosen.{chosen-cong}
+use Rattle.finite.proofs.Running.{smallest-some}
 use Rattle.finite.proofs.Sweeps.{table-set}
 use Rattle.finite.proofs.Filled.{filled-more, filled-same}
 use Rattle.model.specs.Instance.{Instance, cost}
@@ -24,7 +24,7 @@ use Rattle.model.specs.MaximinShare.{inBundle, bundleCost, cheapestBundle, deal
 use Rattle.measures.specs.Dealing.{cheapest, addedTo, dealtOne, dealtOn}
 
 -- of the first k chores those of one kind have been dealt, the others are where they were
-pub record Placed (n : ℕ) (kind : ℕ → Bool) (k : ℕ) (old new : List ℕ) : Type 0 where
+pub record InBundles (n : ℕ) (kind : ℕ → Bool) (k : ℕ) (old new : List ℕ) : Type 0 where
   pub size : length new ≡ length old
   pub positive : (c : ℕ) → c < k → kind c ≡ true → 0 < getD new c 0
   pub bounded : (c : ℕ) → c < k → kind c ≡ true → getD new c 0 ≤ n
@@ -34,11 +34,11 @@ pub record Placed (n : ℕ) (kind : ℕ → Bool) (k : ℕ) (old new : List ℕ)
 module _ (I : Instance) (i : ℕ) (some : 0 < I .n) where
   cheapest-bundle : (bundles : List ℕ) → cheapestBundle I i bundles < I .n
   unfolding cheapestBundle
-  cheapest-bundle bundles = chosen-some (smaller-order (bundleCost I i bundles)) (I .n) (λ k. true) 0 some refl
+  cheapest-bundle bundles = smallest-some (bundleCost I i bundles) some
 
   -- one chore more, which is of that kind or not
-  module _ {kind : ℕ → Bool} {k : ℕ} {old new : List ℕ} (p : Placed (I .n) kind k old new) where
-    place-hit : k < length old → kind k ≡ true → Placed (I .n) kind (suc k) old (set new k (cheapestBundle I i new + 1))
+  module _ {kind : ℕ → Bool} {k : ℕ} {old new : List ℕ} (p : InBundles (I .n) kind k old new) where
+    place-hit : k < length old → kind k ≡ true → InBundles (I .n) kind (suc k) old (set new k (cheapestBundle I i new + 1))
     place-hit l h =
         let v = cheapestBundle I i new + 1 in
         let here : getD (set new k v) k 0 ≡ v = getD-set-same new k v 0 (omega (arith, p .size)) in
@@ -53,7 +53,7 @@ module _ (I : Instance) (i : ℕ) (some : 0 < I .n) where
           later = λ c b. apart c (λ q. omega arith) ∙ p .later c (omega arith);
         }
 
-    place-miss : kind k ≡ false → Placed (I .n) kind (suc k) old new
+    place-miss : kind k ≡ false → InBundles (I .n) kind (suc k) old new
     place-miss h =
         record {
           size = p .size;
@@ -63,13 +63,13 @@ module _ (I : Instance) (i : ℕ) (some : 0 < I .n) where
           later = λ c b. p .later c (omega arith);
         }
 
-  pub placed : (kind : ℕ → Bool) (k : ℕ) (old : List ℕ) → k ≤ length old → Placed (I .n) kind k old (dealKind I i kind k old)
+  pub kind-dealt : (kind : ℕ → Bool) (k : ℕ) (old : List ℕ) → k ≤ length old → InBundles (I .n) kind k old (dealKind I i kind k old)
   unfolding dealKind dealChore
-  placed kind zero old l =
+  kind-dealt kind zero old l =
       record { size = refl; positive = λ c b. none-below b; bounded = λ c b. none-below b; other = λ c e. refl; later = λ c b. refl }
-  placed kind (suc k) old l =
-      let before = placed kind k old (omega arith) in
-      by-cond (Placed (I .n) kind (suc k) old) (kind k) _ _ (place-hit before l) (place-miss before)
+  kind-dealt kind (suc k) old l =
+      let before = kind-dealt kind k old (omega arith) in
+      by-cond (InBundles (I .n) kind (suc k) old) (kind k) _ _ (place-hit before l) (place-miss before)
 
 -- what `size` bundles cost, of which the first n may be dealt to
 module _ (I : Instance) (i size : ℕ) (some : 0 < I .n) (fits : I .n ≤ size) where
@@ -96,7 +96,7 @@ module _ (I : Instance) (i size : ℕ) (some : 0 < I .n) (fits : I .n ≤ size) 
     kind-costs zero l t = rw (count-zero kind) t
     kind-costs (suc k) l t =
         let before = kind-costs k (omega arith) t in
-        let at = placed I i some kind k old (omega arith) in
+        let at = kind-dealt I i some kind k old (omega arith) in
         by-test (kind k)
         (λ h. rw (h, ← add-one k, count-hit k kind h, add-one (countTo k kind)) (deal-costs (dealKind I i kind k old) before l (omega (arith, at .size)) (at .later k (le-refl k) ∙ free k l h) (weighs k l h)))
         (λ h. rw (h, ← add-one k, count-miss k kind h) before)

@@ -12,7 +12,7 @@ use borrow.Author.Count.{below-more}
 use Rattle.finite.proofs.Below.{none-below, by-same, by-less}
 use Rattle.finite.proofs.Chosen.{smaller-order, chosen-intro, chosen-unique}
 use Rattle.model.specs.Limits.{maxAgents}
-use Rattle.measures.specs.Dealing.{cheapest, addedTo, dealtOne, dealtOn, Dealing, Passed, LevelDealt}
+use Rattle.measures.specs.Dealing.{cheapest, addedTo, dealtOne, dealtOn, Dealing, LevelPassed, LevelDealt}
 use Rattle.measures.proofs.Levels.{added-long, added-here, added-other, cheapest-below, cheapest-least}
 
 pub dealt-long : (n w k : ℕ) (costs : List ℕ) → length (dealtOn n w k costs) ≡ length costs
@@ -47,7 +47,7 @@ dealt-at-most {n} w (suc k) costs some room j =
 -- a level, bundle by bundle
 module _ {n w least count : ℕ} {costs : List ℕ} (d : Dealing n w count costs) where
   -- none has been passed
-  pub passed-none : least ≡ getD costs (cheapest n costs) 0 → Passed n w least count costs 0 count costs
+  pub passed-none : least ≡ getD costs (cheapest n costs) 0 → LevelPassed n w least count costs 0 count costs
   passed-none is =
       record {
         within = omega arith;
@@ -57,7 +57,7 @@ module _ {n w least count : ℕ} {costs : List ℕ} (d : Dealing n w count costs
         under = λ j l. rw is (cheapest-least costs (d .some) j l);
       }
 
-  module _ {k left : ℕ} {costs′ : List ℕ} (p : Passed n w least count costs k left costs′) (below : k < n) where
+  module _ {k left : ℕ} {costs′ : List ℕ} (p : LevelPassed n w least count costs k left costs′) (below : k < n) where
     pub passed-long : length costs′ ≡ maxAgents
     passed-long = ap length (p .dealt) ∙ dealt-long n w (count - left) costs ∙ d .size
 
@@ -70,7 +70,7 @@ module _ {n w least count : ℕ} {costs : List ℕ} (d : Dealing n w count costs
         omega (arith, at, d .small k below, mul-le-mul-left w more, mul-add w done 1, mul-one w)
 
     -- it costs more than the least
-    pub passed-on : (getD costs′ k 0 ≡ least → ⊥) → Passed n w least count costs (k + 1) left costs′
+    pub passed-on : (getD costs′ k 0 ≡ least → ⊥) → LevelPassed n w least count costs (k + 1) left costs′
     passed-on ne =
         record {
           within = omega arith;
@@ -89,7 +89,7 @@ module _ {n w least count : ℕ} {costs : List ℕ} (d : Dealing n w count costs
         (λ j l _. le-ltb (getD costs′ j 0) (getD costs′ k 0) (omega (arith, p .under j l)))
         (λ j l _. lt-ltb (getD costs′ k 0) (getD costs′ j 0) (omega (arith, p .above j l))))
 
-    pub passed-dealt : getD costs′ k 0 ≡ least → 0 < left → Passed n w least count costs (k + 1) (left - 1) (addedTo k w costs′)
+    pub passed-dealt : getD costs′ k 0 ≡ least → 0 < left → LevelPassed n w least count costs (k + 1) (left - 1) (addedTo k w costs′)
     unfolding dealtOn dealtOne
     passed-dealt e some =
         let here = added-here k w costs′ (omega (arith, passed-long, d .agents)) in
@@ -105,7 +105,7 @@ module _ {n w least count : ℕ} {costs : List ℕ} (d : Dealing n w count costs
         }
 
   -- all have been passed, or no chore is left
-  pub passed-all : {k left : ℕ} {costs′ : List ℕ} → least ≡ getD costs (cheapest n costs) 0 → Passed n w least count costs k left costs′ → (left ≡ 0) ⊎ (k ≡ n) → LevelDealt n w count costs costs′ left
+  pub passed-all : {k left : ℕ} {costs′ : List ℕ} → least ≡ getD costs (cheapest n costs) 0 → LevelPassed n w least count costs k left costs′ → (left ≡ 0) ⊎ (k ≡ n) → LevelDealt n w count costs costs′ left
   passed-all {k} {left} {costs′} is p end =
       record {
         remain = p .remain;

@@ -12,8 +12,8 @@ use lib.Seq.{getD-set-same, getD-set-other}
 use Rattle.finite.specs.Sums.{sumTo}
 use Rattle.finite.proofs.Below.{by-same}
 use Rattle.finite.proofs.Sums.{sum-const, sum-mono, sum-change}
-use Rattle.finite.proofs.Chosen.{smaller, smaller-order, chosen-found, smallest-le}
-use Rattle.finite.proofs.Running.{chosen-some}
+use Rattle.finite.proofs.Chosen.{smaller, chosen-found, smallest-le}
+use Rattle.finite.proofs.Running.{smallest-some}
 use Rattle.measures.specs.Dealing.{cheapest, addedTo, dealtOne, dealtOn}
 
 -- what n bundles cost together
@@ -44,7 +44,7 @@ module _ (k w : ℕ) (costs : List ℕ) where
 module _ {n : ℕ} (costs : List ℕ) (some : 0 < n) where
   pub cheapest-below : cheapest n costs < n
   unfolding cheapest
-  cheapest-below = chosen-some (smaller-order (λ k. getD costs k 0)) n (λ k. true) 0 some refl
+  cheapest-below = smallest-some (λ k. getD costs k 0) some
 
   pub cheapest-least : (k : ℕ) → k < n → getD costs (cheapest n costs) 0 ≤ getD costs k 0
   unfolding cheapest

@@ -1,4 +1,4 @@
--- What the code for one agent's share makes of a sheet, and the list of all shares.
+-- What the code for one agent's share makes of a sheet.
 -- Assumes nothing.
 use Prim.Native.Nat.{ℕ, _+_, _*_, _-_, _≤_}
 use mathlib.Core.Bool.{Bool·not-not}

@@ -23,7 +23,7 @@ use Rattle.model.proofs.Allocations.{allocation-picks, picks-allocation}
 use Rattle.measures.specs.Dealing.{dealtOn}
 use Rattle.measures.proofs.Levels.{inAll, Level, dealt-level}
 use Rattle.measures.proofs.Bearable.{difficultCount, easyCount, Bearable, whole-cost, bearable}
-use Rattle.measures.proofs.Bundles.{Placed, placed, kind-costs}
+use Rattle.measures.proofs.Bundles.{InBundles, kind-dealt, kind-costs}
 
 -- what the bundles cost when agent i's chores are dealt: the difficult ones, then the easy ones
 abbrev pub dealtCosts : Instance → ℕ → ℕ → List ℕ
@@ -42,28 +42,28 @@ module _ (I : Instance) (i : ℕ) (some : 0 < I .n) where
   difficultDealt : List ℕ
   difficultDealt = dealKind I i (λ c. not (I .easy i c)) (I .m) none
 
-  difficult-placed : Placed (I .n) (λ c. not (I .easy i c)) (I .m) none difficultDealt
+  difficult-dealt : InBundles (I .n) (λ c. not (I .easy i c)) (I .m) none difficultDealt
   unfolding difficultDealt
-  difficult-placed = placed I i some (λ c. not (I .easy i c)) (I .m) none (le-of-eq (sym none-long))
+  difficult-dealt = kind-dealt I i some (λ c. not (I .easy i c)) (I .m) none (le-of-eq (sym none-long))
 
   long : length difficultDealt ≡ I .m
-  long = difficult-placed .size ∙ none-long
+  long = difficult-dealt .size ∙ none-long
 
   -- then the easy ones
-  all-placed : Placed (I .n) (I .easy i) (I .m) difficultDealt (dealt I i)
+  all-dealt : InBundles (I .n) (I .easy i) (I .m) difficultDealt (dealt I i)
   unfolding difficultDealt none dealt
-  all-placed = placed I i some (I .easy i) (I .m) difficultDealt (le-of-eq (sym long))
+  all-dealt = kind-dealt I i some (I .easy i) (I .m) difficultDealt (le-of-eq (sym long))
 
   pub dealt-picks : Picks (I .n) (I .m) (dealt I i)
   dealt-picks =
       record {
-        size = all-placed .size ∙ long;
+        size = all-dealt .size ∙ long;
         positive = λ c l.
-            by-test (I .easy i c) (all-placed .positive c l)
-            (λ e. rw (all-placed .other c e) (difficult-placed .positive c l (not-on e)));
+            by-test (I .easy i c) (all-dealt .positive c l)
+            (λ e. rw (all-dealt .other c e) (difficult-dealt .positive c l (not-on e)));
         bounded = λ c l.
-            by-test (I .easy i c) (all-placed .bounded c l)
-            (λ e. rw (all-placed .other c e) (difficult-placed .bounded c l (not-on e)));
+            by-test (I .easy i c) (all-dealt .bounded c l)
+            (λ e. rw (all-dealt .other c e) (difficult-dealt .bounded c l (not-on e)));
       }
 
   -- what the bundles then cost
@@ -80,7 +80,7 @@ module _ (I : Instance) (i : ℕ) (some : 0 < I .n) where
     dealt-costs =
         kind-costs I i size some fits (I .easy i) (I .a) difficultDealt long
         (λ c l e. cond-true (I .a) (I .b) e)
-        (λ c l e. difficult-placed .other c (not-off e) ∙ getD-replicate (I .m) c 0 0 l)
+        (λ c l e. difficult-dealt .other c (not-off e) ∙ getD-replicate (I .m) c 0 0 l)
         (I .m) (le-refl _)
         (kind-costs I i size some fits (λ c. not (I .easy i c)) (I .b) none none-long
         (λ c l e. cond-false (I .a) (I .b) (not-true (I .easy i c) e))

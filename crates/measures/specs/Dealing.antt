@@ -36,7 +36,7 @@ pub record Dealing (n w count : ℕ) (costs : List ℕ) : Type 0 where
   pub small : (k : ℕ) → k < n → getD costs k 0 + w * count < 2 ^ 32
 
 -- the first k bundles have been passed: those that cost `least` have one chore more
-pub record Passed (n w least count : ℕ) (costs : List ℕ) (k left : ℕ) (costs′ : List ℕ) : Type 0 where
+pub record LevelPassed (n w least count : ℕ) (costs : List ℕ) (k left : ℕ) (costs′ : List ℕ) : Type 0 where
   pub within : k ≤ n
   pub remain : left ≤ count
   pub dealt : costs′ ≡ dealtOn n w (count - left) costs

@@ -4,13 +4,13 @@ use mathlib.Core.Logic.{⊎-elim, inl, inr}
 use native.Mathlib.Omega.{arith}
 use borrow.Author.Needs.{needs}
 use borrow.Author.Tests.{ltb-true, ltb-false}
-use Rattle.measures.specs.Dealing.{addedTo, Passed}
+use Rattle.measures.specs.Dealing.{addedTo, LevelPassed}
 use Rattle.measures.proofs.Dealing.{passed-none, passed-small, passed-on, passed-dealt, passed-all}
 use Rattle.measures.proofs.deal_level.Statement.{statement}
 use Rattle.measures.proofs.deal_level.Tie as tie
 
 abbrev Inv-loop : tie.InvT-loop
-Inv-loop n weight least count costs₀ left₀ k₀ costs left k = Passed n weight least count costs₀ k left costs
+Inv-loop n weight least count costs₀ left₀ k₀ costs left k = LevelPassed n weight least count costs₀ k left costs
 
 abbrev μ-loop : tie.MeasureT-loop
 μ-loop n weight least count costs₀ left₀ k₀ costs left k = n - k
