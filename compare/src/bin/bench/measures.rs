@@ -60,10 +60,11 @@ fn row(name: &str, sheets: &[Vec<u8>]) {
     columns::row(name, in_turn(sheets.len(), ways));
 }
 
-/// For every agent a bundle in eight stays behind the others by 1,000: that takes
-/// the proved dealing, which goes by what the cheapest cost, longest.
-fn steepest(agents: usize, chores: usize) -> Vec<u8> {
-    let difficult = agents - agents / 8;
+/// For every agent one bundle stays behind the others by 1,000, and is filled up a
+/// chore at a time: slow for the proved dealing, which looks for the cheapest ones
+/// once for all that cost as much.
+fn one_behind(agents: usize, chores: usize) -> Vec<u8> {
+    let difficult = agents - 1;
     let row = "d".repeat(difficult) + &"e".repeat(chores - difficult);
     compose::sheet(1, 1_000, &vec![row; agents])
 }
@@ -74,5 +75,5 @@ pub fn table(random: &mut Random) {
         let name = format!("{agents} x {chores}, random");
         row(&name, &sheets(random, halves, agents, chores));
     }
-    row("32 x 4000, weights 1 and 1000", &[steepest(32, 4_000)]);
+    row("32 x 4000, weights 1 and 1000", &[one_behind(32, 4_000)]);
 }
