@@ -1,1 +1,2 @@
 // Theorems about Algorithm 1: no code.
+#![tactic(auto)]

@@ -1,4 +1,6 @@
 // The share-out: Algorithm 1 on a sheet.
+#![tactic(auto)]
+
 ghost use Rattle.std.specs.Prelude.{◌≤◌, ◌≡◌, length, replicate};
 ghost use Rattle.model.specs.Limits.{max_agents, max_chores, scratch_size};
 ghost use Rattle.model.specs.Sheet.{chores_of};

@@ -1,5 +1,6 @@
 // The share-out of a whole book: sheet after sheet, each into the next free stretch of the long lists. Prices are bytes, as C
 // lends them; `numbers` has those of the sheet at work.
+#![tactic(auto)]
 
 mod refusal;
 

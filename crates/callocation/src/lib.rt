@@ -1,4 +1,5 @@
 // The share-out for C, without a record of its moves and with one: prices as bytes, moves and cuts in lent memory.
+#![tactic(auto)]
 
 ghost use Rattle.std.specs.Prelude.{◌/◌, ◌≤◌, min, ◌≡◌, length};
 ghost use Rattle.model.specs.Limits.{max_chores};

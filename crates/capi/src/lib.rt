@@ -1,5 +1,6 @@
 // The C interface: the calls on byte slices and numbers. A price takes four bytes, high byte first.
 // Each export is one call of a function with the same promise in a crate below.
+#![tactic(auto)]
 
 ghost use Rattle.model.specs.Promises.{MeasuredList};
 ghost use Rattle.cmodel.specs.Promises.{AllocatedInC, RecordedInC, ListCheckedInC, PricesCheckedInC, FoundInC, BookAllocatedInC, JoinedInC, ShownInC, MeasuredInC};

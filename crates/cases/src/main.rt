@@ -1,4 +1,5 @@
 // The cases of document 01 that have no star: each limit, at it and one past it, and one case for every other refusal. One line each.
+#![tactic(auto)]
 
 ghost use Rattle.std.specs.Prelude.{◌+◌, ◌*◌, ◌≤◌, ◌<◌, ◌≡◌, length};
 ghost use Rattle.model.specs.Limits.{max_agents, max_chores, scratch_size};

@@ -1,4 +1,5 @@
 // The share-out of a whole book for C: the results in lent memory.
+#![tactic(auto)]
 
 ghost use Rattle.cmodel.specs.Promises.{BookAllocatedInC};
 

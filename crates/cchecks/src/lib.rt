@@ -1,4 +1,5 @@
 // The two checks for C: verdicts as numbers, prices as bytes.
+#![tactic(auto)]
 
 ghost use Rattle.std.specs.Prelude.{◌≡◌, ◌+◌, ◌*◌, length};
 ghost use Rattle.model.specs.Limits.{max_chores};

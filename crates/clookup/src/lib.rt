@@ -1,4 +1,5 @@
 // The lookup of a sheet for C.
+#![tactic(auto)]
 
 ghost use Rattle.cmodel.specs.Promises.{FoundInC};
 

@@ -1,4 +1,5 @@
 // Everyone's own measure for C: the numbers in lent memory.
+#![tactic(auto)]
 
 ghost use Rattle.cmodel.specs.Promises.{MeasuredInC};
 

@@ -1,1 +1,2 @@
 // What the calls promise to C: definitions and laws, no code.
+#![tactic(auto)]

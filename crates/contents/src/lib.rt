@@ -1,4 +1,5 @@
 // The contents of a book: whether they keep the book's rule, and where each sheet lies. Sheets are counted from 0, and numbered from 1.
+#![tactic(auto)]
 
 ghost use Rattle.std.specs.Prelude.{◌≡◌, ◌+◌, ◌*◌, ◌≤◌, ◌<◌, length};
 ghost use Rattle.model.specs.Contents.{sheet_count, sheet_start, sheet_size, book_fits, sheet_of};

@@ -1,4 +1,5 @@
 // The results of a book for C, list by list.
+#![tactic(auto)]
 
 ghost use Rattle.std.specs.Prelude.{◌≡◌, length};
 ghost use Rattle.model.specs.Limits.{max_sheets};

@@ -1,4 +1,5 @@
 // Two strands for C: the joined sheet, and where an agent's marks lie.
+#![tactic(auto)]
 
 ghost use Rattle.cmodel.specs.Promises.{JoinedInC, ShownInC};
 ghost use Rattle.cstrands.specs.Telling.{ToldSize};

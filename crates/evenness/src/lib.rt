@@ -1,4 +1,5 @@
 // Evenness: the first agent that is worse off than another although some of its chores, the costliest first, are taken off.
+#![tactic(auto)]
 
 ghost use Rattle.std.specs.Prelude.{◌≡◌, ◌+◌, ◌<◌, replicate};
 ghost use Rattle.finite.specs.Search.{first_below};

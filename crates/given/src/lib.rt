@@ -1,5 +1,6 @@
 // What the two checks are given: a list of owners, judged against its sheet; whose a chore is, what a mark costs, and which chore of an agent is
 // the first difficult one.
+#![tactic(auto)]
 
 ghost use Rattle.std.specs.Prelude.{◌≡◌, ◌<◌, cond, eqb};
 ghost use Rattle.finite.specs.Search.{first_below};

@@ -1,4 +1,5 @@
 // The list check: whether a list is even up to a slack, and whether another list dominates it. The tests are in `evenness` and `waste`.
+#![tactic(auto)]
 
 ghost use Rattle.std.specs.Prelude.{◌≡◌};
 ghost use Rattle.model.specs.Refusals.{list_refusal};

@@ -1,4 +1,5 @@
 // Lists that respect everyone's own measure and are not wasteful: a list within the measures, improved until no other dominates it.
+#![tactic(auto)]
 
 ghost use Rattle.std.specs.Prelude.{◌≡◌, length};
 ghost use Rattle.model.specs.Promises.{MeasuredList};

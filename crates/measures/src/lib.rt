@@ -1,5 +1,6 @@
 // Everyone's own measure: for each agent what the costliest bundle costs it when its chores are dealt, difficult ones first, each to the bundle
 // that costs least so far. Only what the bundles cost is kept.
+#![tactic(auto)]
 
 ghost use Rattle.std.specs.Prelude.{◌≡◌, ◌≤◌, ◌<◌, get_or, replicate};
 ghost use Rattle.finite.specs.Sums.{max_to};

@@ -1,4 +1,5 @@
 // The answers of the public calls. What each of them says is defined in specs/.
+#![tactic(auto)]
 
 // The share-out of one sheet.
 #[derive(Drop)]

@@ -1,4 +1,6 @@
 // The opening: who finds what easy in the share-out's reading, the first owners and prices.
+#![tactic(auto)]
+
 ghost use Rattle.std.specs.Prelude.{◌+◌, ◌*◌, ◌≤◌, ◌<◌, true, ◌≡◌, replicate};
 ghost use Rattle.finite.specs.Bits.{SetOf};
 ghost use Rattle.model.specs.Limits.{max_agents, max_chores};

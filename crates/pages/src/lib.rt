@@ -1,4 +1,6 @@
 // A book printed sheet by sheet: what the programs have in common, whatever they print of a sheet.
+#![tactic(auto)]
+
 ghost use Rattle.std.specs.Prelude.{◌≤◌, ◌≡◌, length};
 ghost use Rattle.pages.specs.Printer.{to_print, last_text};
 ghost use Rattle.pages.specs.Printing.{last_most, Shows};

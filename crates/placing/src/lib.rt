@@ -1,5 +1,6 @@
 // A list in which nobody's chores cost more than its own measure. Costs are counted in units of the easy weight: an easy chore costs 1, a
 // difficult one q. Each agent gets places, which may go to any chore, and for the rest of its measure chores that are easy for it.
+#![tactic(auto)]
 
 ghost use Rattle.std.specs.Prelude.{◌≡◌, ◌≤◌, ◌<◌, length, replicate};
 ghost use Rattle.model.specs.Limits.{max_agents, max_chores};

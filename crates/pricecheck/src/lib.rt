@@ -1,4 +1,5 @@
 // The price check: each chore is to be best for its owner, and nobody's price up to one above anybody's price sum.
+#![tactic(auto)]
 
 ghost use Rattle.std.specs.Prelude.{◌≡◌, ◌+◌, ◌*◌, ◌≤◌, max, cond, eqb, length};
 ghost use Rattle.finite.specs.Sums.{max_to};

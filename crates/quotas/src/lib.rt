@@ -1,1 +1,2 @@
 // Theorems on quotas: no code.
+#![tactic(auto)]

@@ -1,4 +1,6 @@
 // The share-out with a record of its moves.
+#![tactic(auto)]
+
 ghost use Rattle.std.specs.Prelude.{◌≡◌, length};
 ghost use Rattle.model.specs.Sheet.{agents_of, chores_of};
 ghost use Rattle.model.specs.MostMoves.{most_moves};

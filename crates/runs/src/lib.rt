@@ -1,4 +1,6 @@
 // The run of Algorithm 1, one step a turn.
+#![tactic(auto)]
+
 ghost use Rattle.std.specs.Prelude.{◌*◌, ◌≡◌, length};
 ghost use Rattle.model.specs.Limits.{max_agents, scratch_size};
 ghost use Rattle.model.specs.Sheet.{agents_of};

@@ -1,4 +1,6 @@
 // The move that is due in a state of Algorithm 1: in 2a the choice at the group at work, in 2b what the search finds.
+#![tactic(auto)]
+
 ghost use Rattle.std.specs.Prelude.{◌≡◌, length};
 ghost use Rattle.model.specs.Limits.{max_agents, scratch_size};
 ghost use Rattle.model.specs.Sheet.{agents_of};

@@ -1,4 +1,5 @@
 // Reading a sheet: its header, its marks, and the number that it is turned down with. Agents and chores are counted from 0.
+#![tactic(auto)]
 
 ghost use Rattle.std.specs.Prelude.{◌≡◌, ◌+◌, ◌*◌, ◌-◌, ◌≤◌, ◌<◌, cond, not, eqb, length, get_or};
 ghost use Rattle.finite.specs.Lists.{word_at};

@@ -1,4 +1,6 @@
 // One turn of the loop is one step of Algorithm 1.
+#![tactic(auto)]
+
 ghost use Rattle.std.specs.Prelude.{length, ◌≡◌};
 ghost use Rattle.model.specs.Limits.{scratch_size};
 ghost use Rattle.firsts.specs.Traits.{has_trait};

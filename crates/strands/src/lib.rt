@@ -1,4 +1,5 @@
 // Two strands: whether their sheets can be joined, the sheet that they make, and an agent's marks out of the sheet that holds a chore.
+#![tactic(auto)]
 
 ghost use Rattle.std.specs.Prelude.{◌≡◌, ◌+◌, ◌/◌, ◌%◌, ◌≤◌, ◌<◌, ◌∷◌, length, take, drop};
 ghost use Rattle.std.proofs.lemmas.List.Edits.{sets};

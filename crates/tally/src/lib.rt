@@ -1,4 +1,6 @@
 // The running tally of moves and cuts.
+#![tactic(auto)]
+
 ghost use Rattle.std.specs.Prelude.{◌≡◌};
 ghost use Rattle.tally.specs.Counting.{moves_added, cuts_added, Fitting, Counted};
 

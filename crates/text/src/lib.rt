@@ -1,4 +1,6 @@
 // The text of the programs, in a lent buffer: words and numbers, and the lines made of them.
+#![tactic(auto)]
+
 pub mod lines;
 pub mod moves;
 pub mod words;

@@ -1,4 +1,5 @@
 // Waste: whether another list dominates, and one that does. `connected` has the test, `walk` makes the list.
+#![tactic(auto)]
 
 mod connected;
 pub mod walk;

@@ -1,1 +1,2 @@
 // Theorems on evenness, waste and prices: no code.
+#![tactic(auto)]

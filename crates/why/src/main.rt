@@ -1,4 +1,6 @@
 // Reads one book from standard input, and prints the share-out of its sheets with every move; or prints what its one argument asks for.
+#![tactic(auto)]
+
 mod page;
 mod told;
 
