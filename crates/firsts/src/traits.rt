@@ -13,7 +13,7 @@ pub const TOP: usize = 33;
 pub const MID: usize = 34;
 
 // The agents in no group and in some group, and the three prices that there are.
-#[derive(Drop)]
+#[derive(Clone, Copy)]
 pub struct View {
     pub free: u32,
     pub grouped: u32,

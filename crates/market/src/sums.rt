@@ -37,7 +37,7 @@ pub fn any_above(n: usize, ups: &[u32], least: u32) -> bool
 }
 
 // The agents in no group, and those in some group.
-#[derive(Drop)]
+#[derive(Clone, Copy)]
 pub struct Sides {
     pub free: u32,
     pub grouped: u32,

@@ -2,21 +2,21 @@
 #![tactic(auto)]
 
 // The share-out of one sheet.
-#[derive(Drop)]
+#[derive(Clone, Copy)]
 pub enum ShareOut {
     Refused(u8),
     Shared { moves: u64, cuts: u8 },
 }
 
 // Two sheets joined: the size of the joined sheet.
-#[derive(Drop)]
+#[derive(Clone, Copy)]
 pub enum Join {
     Refused(u8),
     Joined { size: usize },
 }
 
 // The list check. With `Wasteful` a dominating list is in the lent list.
-#[derive(Drop)]
+#[derive(Clone, Copy)]
 pub enum ListVerdict {
     Refused(u8),
     Holds,
@@ -25,7 +25,7 @@ pub enum ListVerdict {
 }
 
 // The price check.
-#[derive(Drop)]
+#[derive(Clone, Copy)]
 pub enum PriceVerdict {
     Refused(u8),
     OffPrice(u16),
@@ -34,7 +34,7 @@ pub enum PriceVerdict {
 }
 
 // One sheet of a book: refused, or shared out from entry `first` of the long lists on; or the book has no such sheet.
-#[derive(Drop)]
+#[derive(Clone, Copy)]
 pub enum SheetResult {
     Absent,
     Refused(u8),
@@ -42,41 +42,41 @@ pub enum SheetResult {
 }
 
 // An array of enums as a field is not covered by the borrow checker, an array of structs is.
-#[derive(Drop)]
+#[derive(Clone, Copy)]
 pub struct SheetEntry {
     pub result: SheetResult,
 }
 
 // What a lookup finds: its refusal number, or 0 and the part of the caller's book.
-#[derive(Drop)]
+#[derive(Clone, Copy)]
 pub struct Found<'a> {
     pub refusal: u8,
     pub sheet: &'a [u8],
 }
 
 // What is shown of two strands: a refusal number, or 0 and an agent's row as a part of one of the two sheets lent.
-#[derive(Drop)]
+#[derive(Clone, Copy)]
 pub struct Shown<'a> {
     pub refusal: u8,
     pub marks: &'a [u8],
 }
 
 // Everyone's own measure: a refusal number, or 0 and the numbers of the agents, in their order.
-#[derive(Drop)]
+#[derive(Clone, Copy)]
 pub struct Measures {
     pub refusal: u8,
     pub numbers: [u32; MAX_AGENTS],
 }
 
 // The running tally of moves and cuts.
-#[derive(Drop)]
+#[derive(Clone, Copy)]
 pub struct Tally {
     pub moves: u64,
     pub cuts: u64,
 }
 
 // A whole book: its refusal number, or 0 and its sheets' results.
-#[derive(Drop)]
+#[derive(Clone, Copy)]
 pub struct BookResult {
     pub refusal: u8,
     pub count: u8,

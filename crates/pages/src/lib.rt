@@ -8,14 +8,14 @@ ghost use Rattle.pages.specs.Printing.{last_most, Shows};
 use text::lines;
 
 // The text of a sheet ends at `end` in the buffer.
-#[derive(Drop)]
+#[derive(Clone, Copy)]
 pub struct SheetText {
     pub end: usize,
     pub answer: model::ShareOut,
 }
 
 // What went out: the texts of so many sheets, one after the other, and whether they went out whole.
-#[derive(Drop)]
+#[derive(Clone, Copy)]
 pub struct Sent {
     pub sheets: usize,
     pub whole: bool,

@@ -4,7 +4,7 @@ ghost use Rattle.program.specs.Arguments.{Asks};
 use crate::output;
 use libc::{STDERR_FILENO, STDOUT_FILENO};
 
-#[derive(Drop)]
+#[derive(Clone, Copy)]
 enum Asked {
     // No word: the program's own work.
     Run,

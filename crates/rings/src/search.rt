@@ -4,7 +4,7 @@ ghost use Rattle.rings.specs.Search.{Lists, Answered};
 use crate::line;
 
 // The giver (n for nobody), and those of the ring before who want a chore of the giver.
-#[derive(Drop)]
+#[derive(Clone, Copy)]
 pub struct Found {
     pub giver: usize,
     pub takers: u32,

@@ -54,7 +54,7 @@ fn weigh(
 }
 
 // The move that is due: the giver, n where none is, the receiver, and the trait of the chore that goes. And whether anybody is above the least sum.
-#[derive(Drop)]
+#[derive(Clone, Copy)]
 pub struct Seen {
     pub giver: usize,
     pub receiver: usize,

@@ -15,7 +15,7 @@ use rings::line::reached;
 use seeking::{Seen, seek, view_of};
 
 // What a step did. A move tells its chore, giver and receiver, counted from 0.
-#[derive(Drop)]
+#[derive(Clone, Copy)]
 pub enum Turn {
     Moved {
         chore: usize,
@@ -28,7 +28,7 @@ pub enum Turn {
 }
 
 // Where a run stands: its counters, stage 0 for 2b or else the group at work in 2a, and the view of its state.
-#[derive(Drop)]
+#[derive(Clone, Copy)]
 pub struct Stand {
     pub moves: u64,
     pub cuts: u8,
