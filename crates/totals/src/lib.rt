@@ -1,4 +1,6 @@
 // Sums of all agents: price sums, in one pass over the chores, and the first sum that is below a limit or the least. And lists of zeros.
+#![tactic(auto)]
+
 ghost use Rattle.std.specs.Prelude.{true, ◌≡◌, ◌≤◌, ◌<◌, ltb, length, get_or, replicate};
 ghost use Rattle.finite.specs.Search.{first_below, chosen};
 ghost use Rattle.model.specs.Limits.{max_agents, max_chores, scratch_size};

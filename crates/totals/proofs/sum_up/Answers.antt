@@ -1,25 +1,25 @@
-use Rattle.std.proofs.Common.{rules, true, ◌≡◌, ◌≤◌, ◌<◌, ltb, length, get_or, replicate, ℕ, ◌+◌, ◌-◌, ◌*◌, ◌/◌, ◌%◌, Bool, false, nat_eq, List, [], ◌∷◌, ◌++◌, slice_set, bit_and, bit_or, Fits, w8, w32, w64, Bor, MutBor}
-use Rattle.finite.specs.Search.{first_below, chosen}
-use Rattle.model.specs.Limits.{max_agents, max_chores, scratch_size}
-use Rattle.totals.specs.Totals.{Parts, TakenOff, Summing, Summed}
+use Rattle.std.proofs.Common.{◌≡◌, length, arith}
+use Rattle.totals.proofs.Summing.{added_none, added_parts, added_raised, added_kept, sum_fits, summed}
 use Rattle.totals.proofs.sum_up.Goals as goal
+use Rattle.totals.proofs.sum_up.Goals.{then-ups-o, else-ups-o}
 
--- src/lib.rt:73:5
 pub loop-c-init : goal.loop-c-init
-loop-c-init c = ?
+loop-c-init c = (omega arith, added_none c.requires.no_sums c.requires.no_ups)
 
--- src/lib.rt:76:9
 pub overflow_add-sums : goal.overflow_add-sums
-overflow_add-sums c = ?
+overflow_add-sums c = record { fits = sum_fits c.requires.held c.loop-c-test.true c.loop-c.invariant.1 }
 
--- src/lib.rt:73:5
 pub loop-c-preserved : goal.loop-c-preserved
-loop-c-preserved c = ?
+loop-c-preserved c =
+    elim c.if-ups-o.branch [
+      | then-ups-o w ↦ (omega arith, rw w.ups-is (added_raised c.requires.held c.loop-c-test.true c.loop-c.invariant.1 (omega (arith, w.if-ups-o.true))))
+      | else-ups-o w ↦ (omega arith, rw w.ups-is (added_kept c.requires.held c.loop-c-test.true c.loop-c.invariant.1 w.if-ups-o.false))
+    ]
 
--- src/lib.rt:82:5
 pub take_off-requires : goal.take_off-requires
-take_off-requires c = ?
+take_off-requires c = added_parts c.loop-c.invariant.1 c.requires.agents
 
--- src/lib.rt:62:1
 pub returns : goal.returns
-returns c = ?
+returns c =
+    let all : c.loop-c.c ≡ length c.args.owners.now = omega arith in
+    summed (rw all at c.loop-c.invariant.1) c.requires.agents c.take_off.ensures

@@ -1,3 +1,4 @@
+-- The chores passed are added up.
 use Rattle.std.proofs.Common.{length, ◌-◌, ◌≤◌}
 use Rattle.totals.specs.Totals.{Added}
 use Rattle.totals.proofs.sum_up.Given as goal

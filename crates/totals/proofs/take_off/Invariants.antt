@@ -1,3 +1,4 @@
+-- The dearest of the agents passed are taken off, and the others are as they were.
 use Rattle.std.proofs.Common.{length, ◌-◌, ◌≤◌, ◌≡◌, ◌<◌, ℕ, get_or}
 use Rattle.totals.proofs.take_off.Given as goal
 
