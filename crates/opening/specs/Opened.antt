@@ -3,10 +3,16 @@ use Rattle.std.specs.Prelude.{ℕ, ◌+◌, ◌*◌, ◌≤◌, ◌<◌, true, L
 use Rattle.finite.specs.Bits.{bit, SetOf}
 use Rattle.finite.specs.Search.{first_below, chosen}
 use Rattle.finite.specs.Lists.{tabulate}
-use Rattle.model.specs.Sheet.{chores_of, marks_easy, as_read}
+use Rattle.model.specs.Sheet.{agents_of, chores_of, marks_easy, as_read}
 use Rattle.model.specs.Algorithm.{opening_owner, opening_price}
-use Rattle.sheet.specs.Readers.{SheetRead, RowInSheet}
+use Rattle.sheet.specs.Valid.{Valid}
+use Rattle.sheet.specs.Readers.{RowInSheet}
 use Rattle.market.specs.Market.{Liked}
+
+pub record OpenOn (s : List ℕ) (n m : ℕ) : Type 0 where
+  pub valid : Valid s
+  pub agents : n ≡ agents_of s
+  pub chores : m ≡ chores_of s
 
 -- the first `count` marks of byte k of agent i's row
 pub record ByteOf (s : List ℕ) (m i k count : ℕ) : Type 0 where
@@ -28,7 +34,7 @@ pub record OpensWith (n easy : ℕ) (held : List ℕ) (owner : ℕ) : Type 0 whe
 
 -- an entry for each chore in each list that the opening fills, and nobody likes any yet
 pub record OpenInto (s : List ℕ) (n m : ℕ) (owners prices likes : List ℕ) : Type 0 where
-  pub on : SheetRead s n m
+  pub on : OpenOn s n m
   pub owners_sized : length owners ≡ m
   pub prices_sized : length prices ≡ m
   pub no_likes : likes ≡ replicate m 0

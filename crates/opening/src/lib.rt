@@ -5,14 +5,14 @@ ghost use Rattle.std.specs.Prelude.{◌+◌, ◌*◌, ◌≤◌, ◌<◌, true, 
 ghost use Rattle.finite.specs.Bits.{SetOf};
 ghost use Rattle.model.specs.Limits.{max_agents, max_chores};
 ghost use Rattle.model.specs.Sheet.{all_difficult};
-ghost use Rattle.sheet.specs.Readers.{SheetRead, RowInSheet};
-ghost use Rattle.opening.specs.Opened.{ByteOf, Marked, OpensWith, OpenInto, Opened};
+ghost use Rattle.sheet.specs.Readers.{RowInSheet};
+ghost use Rattle.opening.specs.Opened.{OpenOn, ByteOf, Marked, OpensWith, OpenInto, Opened};
 
 use market::words::{lowest, with, with_easy};
 
 // The agents whose row is all difficult, which is read as all easy.
 fn all_difficult_rows(sheet: &[u8], n: usize, m: usize) -> u32
-    requires { SheetRead sheet.now n m }
+    requires { OpenOn sheet.now n m }
     ensures { SetOf n result (all_difficult sheet.now) }
 {
     let mut w = 0u32;
@@ -65,7 +65,7 @@ fn add_row(sheet: &[u8], m: usize, i: usize, likes: &mut [u32])
 
 // For each chore the agents who mark it easy. Row by row, since a row's bytes lie side by side.
 fn add_rows(sheet: &[u8], n: usize, m: usize, likes: &mut [u32])
-    requires { SheetRead sheet.now n m × (likes.old ≡ replicate m 0) }
+    requires { OpenOn sheet.now n m × (likes.old ≡ replicate m 0) }
     ensures { Marked sheet.now n 0 likes.new }
 {
     let mut i = 0;
