@@ -62,9 +62,9 @@ module _ {s owners prices scratch : List ℕ} where
       }
 
   -- the first m entries are those of the state in which the run ends, the rest are kept
-  pub shared_out_lem : {x p lent bytes scratch' : List ℕ} {moves cuts k : ℕ} → allocate_refusal s (length owners) (length prices) (length scratch) ≡ 0 → Shared s x p lent bytes moves cuts → k ≡ chores_of s → scratch' ≡ replicate (length scratch) 0 → SharedWith s owners prices scratch lent (x ++ drop (k - 0) owners) (p ++ drop (k - 0) prices) scratch' bytes (ShareOut.Shared moves cuts)
+  pub shared_out : {x p lent bytes scratch' : List ℕ} {moves cuts k : ℕ} → allocate_refusal s (length owners) (length prices) (length scratch) ≡ 0 → Shared s x p lent bytes moves cuts → k ≡ chores_of s → scratch' ≡ replicate (length scratch) 0 → SharedWith s owners prices scratch lent (x ++ drop (k - 0) owners) (p ++ drop (k - 0) prices) scratch' bytes (ShareOut.Shared moves cuts)
   unfolding as_read
-  shared_out_lem {x} {p} {k = k} e R q zeros =
+  shared_out {x} {p} {k = k} e R q zeros =
       let fine = is_fine s (length owners) (length prices) (length scratch) e in
       let from : k - 0 ≡ chores_of s = omega arith in
       let shape = ended_shaped fine.valid R.ended.ends in

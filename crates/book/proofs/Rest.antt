@@ -35,13 +35,13 @@ record Left (s owners scratch owners' numbers' scratch' : List ℕ) (out : Share
 
 module _ {s lent numbers scratch o p c : List ℕ} {out : ShareOut} (A : Allocated s lent numbers scratch o p c out) (many : max_chores ≤ length lent) (enough : max_chores ≤ length numbers) (fits : scratch_size ≤ length scratch) where
   left : Left s lent scratch o p c out
-  left = by_same (sheet_refusal s) 0 shared_out_lem turned_down
+  left = by_same (sheet_refusal s) 0 shared_out turned_down
     where
       decides : allocate_refusal s (length lent) (length numbers) (length scratch) ≡ sheet_refusal s
       decides = sheet_decides s (length lent) (length numbers) (length scratch) many enough fits
 
-      shared_out_lem : sheet_refusal s ≡ 0 → Left s lent scratch o p c out
-      shared_out_lem z =
+      shared_out : sheet_refusal s ≡ 0 → Left s lent scratch o p c out
+      shared_out z =
           let S = A.not_refused (decides ∙ z) in
           let same = (final_demand3 s z).only S.final S.demand3.ends in
           record {

@@ -20,7 +20,7 @@ use Rattle.model.specs.Fairness.{dominates, is_allocation}
 use Rattle.model.specs.Algorithm.{Outcome, busy, done, lacking, after}
 use Rattle.model.specs.Record.{moves_in, record_of}
 use Rattle.model.specs.Refusals.{sheet_refusal}
-use Rattle.model.specs.Cases.{Case, shared_out_lem, lacks, opens, judged, spelled, lent, lent_book, recorded, lent_record, joins, lent_join, marked, asked, listed, even_to_one, shown, measured, unmeasured, dealt_into, within_measures_lem, respects, lent_measured, priced, respecting, Shares, Records, Meets, MeetsAll}
+use Rattle.model.specs.Cases.{Case, shared_out, lacks, opens, judged, spelled, lent, lent_book, recorded, lent_record, joins, lent_join, marked, asked, listed, even_to_one, shown, measured, unmeasured, dealt_into, keeps_within, respects, lent_measured, priced, respecting, Shares, Records, Meets, MeetsAll}
 use Rattle.model.proofs.Allocations.{allocation_picks}
 
 -- what an outcome shows of a run that has ended
@@ -48,7 +48,7 @@ passes_too m t z y = t y && differs m y z
 
 -- what antt computes for a case; `enough` steps end each run of the table
 unfoldable pub Computed : ℕ → Case → Type 0
-Computed enough (shared_out_lem s owners prices moves cuts) = (sheet_refusal s ≡ 0) × (seen (after (as_read s) enough) ≡ ended owners prices moves cuts)
+Computed enough (shared_out s owners prices moves cuts) = (sheet_refusal s ≡ 0) × (seen (after (as_read s) enough) ≡ ended owners prices moves cuts)
 Computed enough (opens s owners total) = Meets (opens s owners total)
 Computed enough (lacks s x) = Meets (lacks s x)
 Computed enough (judged s k) = Meets (judged s k)
@@ -70,7 +70,7 @@ Computed enough (shown s owners other) =
 Computed enough (measured s numbers) = Meets (measured s numbers)
 Computed enough (unmeasured s k) = Meets (unmeasured s k)
 Computed enough (dealt_into s person bundles) = Meets (dealt_into s person bundles)
-Computed enough (within_measures_lem s owners answer) = Meets (within_measures_lem s owners answer)
+Computed enough (keeps_within s owners answer) = Meets (keeps_within s owners answer)
 Computed enough (respects s owners) =
     (is_allocation (as_marked s) owners ≡ true)
     × (respecting s owners ≡ true)
@@ -115,7 +115,7 @@ no_other I t z y none hz hy d =
 
 met : (enough : ℕ) (c : Case) → Computed enough c → Meets c
 unfolding Computed Meets
-met enough (shared_out_lem s owners prices moves cuts) h = ran s owners prices moves cuts enough (after (as_read s) enough) h.0 refl h.1
+met enough (shared_out s owners prices moves cuts) h = ran s owners prices moves cuts enough (after (as_read s) enough) h.0 refl h.1
 met enough (opens s owners total) h = h
 met enough (lacks s x) h = h
 met enough (judged s k) h = h
@@ -139,7 +139,7 @@ met enough (shown s owners other) h =
 met enough (measured s numbers) h = h
 met enough (unmeasured s k) h = h
 met enough (dealt_into s person bundles) h = h
-met enough (within_measures_lem s owners answer) h = h
+met enough (keeps_within s owners answer) h = h
 met enough (respects s owners) h =
     record { allocation = h.0; respects_them = h.1; only = λ y. no_other (as_marked s) (respecting s) owners y h.2 h.0 }
 met enough (lent_measured s entries k) h = h

@@ -46,7 +46,7 @@ sheet a b texts = header (length texts) (first_count texts) a b ++ all_rows text
 
 pub data Case : Type 0 where
   -- the share-out of a sheet: its owners, prices, moves and cuts
-  shared_out_lem : List ℕ → List ℕ → List ℕ → ℕ → ℕ → Case
+  shared_out : List ℕ → List ℕ → List ℕ → ℕ → ℕ → Case
   -- the opening list of a sheet, and what it costs in total, as the share-out reads the marks
   opens : List ℕ → List ℕ → ℕ → Case
   -- in this state of a share-out of a sheet, whether or not a run comes to it, the step that is due lacks its chore
@@ -84,7 +84,7 @@ pub data Case : Type 0 where
   -- on a sheet, the bundles that an agent's chores are dealt into, the agent counted from 1
   dealt_into : List ℕ → ℕ → List ℕ → Case
   -- on a sheet, whether a list is within the measures
-  within_measures_lem : List ℕ → List ℕ → Bool → Case
+  keeps_within : List ℕ → List ℕ → Bool → Case
   -- on a sheet, the one list that is within the measures and not wasteful
   respects : List ℕ → List ℕ → Case
   -- the refusal number of asking for such a list, with a lent list of so many entries
@@ -126,7 +126,7 @@ pub record Respects (s owners : List ℕ) : Type 0 where
   pub only : (y : List ℕ) → is_allocation (as_marked s) y ≡ true → respecting s y ≡ true → y ≡ owners
 
 unfoldable pub Meets : Case → Type 0
-Meets (shared_out_lem s owners prices moves cuts) = Shares s owners prices moves cuts
+Meets (shared_out s owners prices moves cuts) = Shares s owners prices moves cuts
 Meets (opens s owners total) = ((opening (as_read s)).owners ≡ owners) × (total_cost (as_read s) (owner_of owners) ≡ total)
 Meets (lacks s x) = step (as_read s) x ≡ lacking x
 Meets (judged s k) = sheet_refusal s ≡ k
@@ -145,7 +145,7 @@ Meets (shown s owners other) = Shows s owners other
 Meets (measured s numbers) = (measures_refusal s ≡ 0) × (measures_of s ≡ numbers)
 Meets (unmeasured s k) = measures_refusal s ≡ k
 Meets (dealt_into s person bundles) = dealt (as_marked s) (person - 1) ≡ bundles
-Meets (within_measures_lem s owners answer) = within_measures (as_marked s) (owner_of owners) ≡ answer
+Meets (keeps_within s owners answer) = within_measures (as_marked s) (owner_of owners) ≡ answer
 Meets (respects s owners) = Respects s owners
 Meets (lent_measured s entries k) = measured_list_refusal s entries ≡ k
 Meets (priced s owners prices answer) = price_check s owners prices ≡ answer

@@ -5,7 +5,7 @@ use Rattle.finite.specs.Packed.{bytes_for}
 use Rattle.model.specs.Record.{move_bytes}
 use Rattle.model.specs.Strands.{joined_sheet}
 use Rattle.model.specs.Replies.{refused, holds, unfair, wasteful, off_price, price_envy, accepted}
-use Rattle.model.specs.Cases.{header, sheet, row, Case, shared_out_lem, opens, lacks, judged, spelled, lent, lent_book, recorded, lent_record, joins, lent_join, marked, asked, listed, even_to_one, shown, measured, unmeasured, dealt_into, within_measures_lem, respects, lent_measured, priced}
+use Rattle.model.specs.Cases.{header, sheet, row, Case, shared_out, opens, lacks, judged, spelled, lent, lent_book, recorded, lent_record, joins, lent_join, marked, asked, listed, even_to_one, shown, measured, unmeasured, dealt_into, keeps_within, respects, lent_measured, priced}
 
 unfoldable pub sheet_c : List ℕ
 sheet_c = sheet 1 3 ("eeeee" ∷ "dddde" ∷ [])
@@ -74,33 +74,33 @@ bytes m rows = header 2 m 1 2 ++ rows
 unfoldable pub table : List Case
 table =
     -- A to G
-    shared_out_lem (sheet 1 2 ("" ∷ [])) [] [] 0 0
-    ∷ shared_out_lem (sheet 1 3 ("eeee" ∷ "dddd" ∷ [])) (2 ∷ 2 ∷ 1 ∷ 1 ∷ []) (3 ∷ 3 ∷ 3 ∷ 3 ∷ []) 2 0
-    ∷ shared_out_lem sheet_c (2 ∷ 2 ∷ 1 ∷ 1 ∷ 2 ∷ []) (3 ∷ 3 ∷ 3 ∷ 3 ∷ 1 ∷ []) 3 1
-    ∷ shared_out_lem sheet_d (2 ∷ 1 ∷ 1 ∷ []) (2 ∷ 2 ∷ 2 ∷ []) 1 0
-    ∷ shared_out_lem sheet_e (1 ∷ 2 ∷ []) (2 ∷ 2 ∷ []) 0 0
-    ∷ shared_out_lem (sheet 1 2 ("de" ∷ "de" ∷ [])) (2 ∷ 1 ∷ []) (4 ∷ 2 ∷ []) 1 0
-    ∷ shared_out_lem (sheet 1 3 ("eeedd" ∷ "ddded" ∷ "eeede" ∷ [])) (3 ∷ 1 ∷ 1 ∷ 2 ∷ 3 ∷ []) (3 ∷ 3 ∷ 3 ∷ 3 ∷ 3 ∷ []) 1 0
-    ∷ shared_out_lem sheet2a (3 ∷ 1 ∷ 3 ∷ 1 ∷ 1 ∷ 3 ∷ 2 ∷ 2 ∷ 3 ∷ []) (3 ∷ 1 ∷ 1 ∷ 3 ∷ 3 ∷ 3 ∷ 3 ∷ 3 ∷ 1 ∷ []) 7 2
+    shared_out (sheet 1 2 ("" ∷ [])) [] [] 0 0
+    ∷ shared_out (sheet 1 3 ("eeee" ∷ "dddd" ∷ [])) (2 ∷ 2 ∷ 1 ∷ 1 ∷ []) (3 ∷ 3 ∷ 3 ∷ 3 ∷ []) 2 0
+    ∷ shared_out sheet_c (2 ∷ 2 ∷ 1 ∷ 1 ∷ 2 ∷ []) (3 ∷ 3 ∷ 3 ∷ 3 ∷ 1 ∷ []) 3 1
+    ∷ shared_out sheet_d (2 ∷ 1 ∷ 1 ∷ []) (2 ∷ 2 ∷ 2 ∷ []) 1 0
+    ∷ shared_out sheet_e (1 ∷ 2 ∷ []) (2 ∷ 2 ∷ []) 0 0
+    ∷ shared_out (sheet 1 2 ("de" ∷ "de" ∷ [])) (2 ∷ 1 ∷ []) (4 ∷ 2 ∷ []) 1 0
+    ∷ shared_out (sheet 1 3 ("eeedd" ∷ "ddded" ∷ "eeede" ∷ [])) (3 ∷ 1 ∷ 1 ∷ 2 ∷ 3 ∷ []) (3 ∷ 3 ∷ 3 ∷ 3 ∷ 3 ∷ []) 1 0
+    ∷ shared_out sheet2a (3 ∷ 1 ∷ 3 ∷ 1 ∷ 1 ∷ 3 ∷ 2 ∷ 2 ∷ 3 ∷ []) (3 ∷ 1 ∷ 1 ∷ 3 ∷ 3 ∷ 3 ∷ 3 ∷ 3 ∷ 1 ∷ []) 7 2
     -- several agents of least sum when a group is cut
-    ∷ shared_out_lem (sheet 1 2 ("ddded" ∷ "ddddd" ∷ "ddedd" ∷ [])) (1 ∷ 3 ∷ 3 ∷ 1 ∷ 2 ∷ []) (2 ∷ 2 ∷ 1 ∷ 1 ∷ 2 ∷ []) 3 1
+    ∷ shared_out (sheet 1 2 ("ddded" ∷ "ddddd" ∷ "ddedd" ∷ [])) (1 ∷ 3 ∷ 3 ∷ 1 ∷ 2 ∷ []) (2 ∷ 2 ∷ 1 ∷ 1 ∷ 2 ∷ []) 3 1
     -- the giver's lowest chore in 2a is entitled
-    ∷ shared_out_lem (sheet 2 3 ("ddddddddd" ∷ "edededddd" ∷ "edddddddd" ∷ [])) (3 ∷ 2 ∷ 2 ∷ 3 ∷ 2 ∷ 3 ∷ 1 ∷ 1 ∷ 1 ∷ []) (4 ∷ 6 ∷ 4 ∷ 6 ∷ 4 ∷ 6 ∷ 6 ∷ 6 ∷ 6 ∷ []) 8 2
+    ∷ shared_out (sheet 2 3 ("ddddddddd" ∷ "edededddd" ∷ "edddddddd" ∷ [])) (3 ∷ 2 ∷ 2 ∷ 3 ∷ 2 ∷ 3 ∷ 1 ∷ 1 ∷ 1 ∷ []) (4 ∷ 6 ∷ 4 ∷ 6 ∷ 4 ∷ 6 ∷ 6 ∷ 6 ∷ 6 ∷ []) 8 2
     -- equal sums in 2a
-    ∷ shared_out_lem (sheet 1 3 ("ddedddddd" ∷ "ddddddddd" ∷ "dddddeddd" ∷ "edddddddd" ∷ "edddddddd" ∷ [])) (4 ∷ 1 ∷ 1 ∷ 4 ∷ 5 ∷ 3 ∷ 3 ∷ 2 ∷ 2 ∷ []) (1 ∷ 3 ∷ 1 ∷ 3 ∷ 3 ∷ 1 ∷ 3 ∷ 3 ∷ 3 ∷ []) 7 2
+    ∷ shared_out (sheet 1 3 ("ddedddddd" ∷ "ddddddddd" ∷ "dddddeddd" ∷ "edddddddd" ∷ "edddddddd" ∷ [])) (4 ∷ 1 ∷ 1 ∷ 4 ∷ 5 ∷ 3 ∷ 3 ∷ 2 ∷ 2 ∷ []) (1 ∷ 3 ∷ 1 ∷ 3 ∷ 3 ∷ 1 ∷ 3 ∷ 3 ∷ 3 ∷ []) 7 2
     -- three cuts: group 2 has its turn in 2a before group 1, and an agent of least sum receives
-    ∷ shared_out_lem (sheet 3 4 ("ddddddeeeeeeeeee" ∷ "dddeeedddddddddd" ∷ "deeddddddddddddd" ∷ "eddddddddddddddd" ∷ [])) (4 ∷ 3 ∷ 3 ∷ 2 ∷ 2 ∷ 2 ∷ 2 ∷ 3 ∷ 4 ∷ 3 ∷ 4 ∷ 4 ∷ 1 ∷ 1 ∷ 1 ∷ 1 ∷ []) (9 ∷ 9 ∷ 9 ∷ 9 ∷ 9 ∷ 9 ∷ 12 ∷ 12 ∷ 12 ∷ 12 ∷ 12 ∷ 12 ∷ 12 ∷ 12 ∷ 12 ∷ 12 ∷ []) 9 3
+    ∷ shared_out (sheet 3 4 ("ddddddeeeeeeeeee" ∷ "dddeeedddddddddd" ∷ "deeddddddddddddd" ∷ "eddddddddddddddd" ∷ [])) (4 ∷ 3 ∷ 3 ∷ 2 ∷ 2 ∷ 2 ∷ 2 ∷ 3 ∷ 4 ∷ 3 ∷ 4 ∷ 4 ∷ 1 ∷ 1 ∷ 1 ∷ 1 ∷ []) (9 ∷ 9 ∷ 9 ∷ 9 ∷ 9 ∷ 9 ∷ 12 ∷ 12 ∷ 12 ∷ 12 ∷ 12 ∷ 12 ∷ 12 ∷ 12 ∷ 12 ∷ 12 ∷ []) 9 3
     -- three cuts: of the later groups the last has the agent of least sum
-    ∷ shared_out_lem (sheet 2 3 ("dddddddddeeeeeeeeee" ∷ "edddddddddddddddddd" ∷ "deedddddddddddddddd" ∷ "dddeeeddddddddddddd" ∷ "ddddddeeedddddddddd" ∷ [])) (2 ∷ 3 ∷ 3 ∷ 4 ∷ 4 ∷ 4 ∷ 5 ∷ 5 ∷ 5 ∷ 4 ∷ 5 ∷ 2 ∷ 3 ∷ 2 ∷ 3 ∷ 2 ∷ 1 ∷ 1 ∷ 1 ∷ []) (4 ∷ 4 ∷ 4 ∷ 4 ∷ 4 ∷ 4 ∷ 4 ∷ 4 ∷ 4 ∷ 6 ∷ 6 ∷ 6 ∷ 6 ∷ 6 ∷ 6 ∷ 6 ∷ 6 ∷ 6 ∷ 6 ∷ []) 10 3
+    ∷ shared_out (sheet 2 3 ("dddddddddeeeeeeeeee" ∷ "edddddddddddddddddd" ∷ "deedddddddddddddddd" ∷ "dddeeeddddddddddddd" ∷ "ddddddeeedddddddddd" ∷ [])) (2 ∷ 3 ∷ 3 ∷ 4 ∷ 4 ∷ 4 ∷ 5 ∷ 5 ∷ 5 ∷ 4 ∷ 5 ∷ 2 ∷ 3 ∷ 2 ∷ 3 ∷ 2 ∷ 1 ∷ 1 ∷ 1 ∷ []) (4 ∷ 4 ∷ 4 ∷ 4 ∷ 4 ∷ 4 ∷ 4 ∷ 4 ∷ 4 ∷ 6 ∷ 6 ∷ 6 ∷ 6 ∷ 6 ∷ 6 ∷ 6 ∷ 6 ∷ 6 ∷ 6 ∷ []) 10 3
     -- two givers of equal price-one in 2a
-    ∷ shared_out_lem (sheet 3 4 ("ddddddeeeeeeeee" ∷ "deddddddddddddd" ∷ "ddddeeddddddddd" ∷ "ddeeddddddddddd" ∷ "edddddddddddddd" ∷ [])) (5 ∷ 2 ∷ 4 ∷ 4 ∷ 3 ∷ 3 ∷ 3 ∷ 4 ∷ 2 ∷ 5 ∷ 2 ∷ 5 ∷ 1 ∷ 1 ∷ 1 ∷ []) (9 ∷ 9 ∷ 9 ∷ 9 ∷ 9 ∷ 9 ∷ 12 ∷ 12 ∷ 12 ∷ 12 ∷ 12 ∷ 12 ∷ 12 ∷ 12 ∷ 12 ∷ []) 8 2
+    ∷ shared_out (sheet 3 4 ("ddddddeeeeeeeee" ∷ "deddddddddddddd" ∷ "ddddeeddddddddd" ∷ "ddeeddddddddddd" ∷ "edddddddddddddd" ∷ [])) (5 ∷ 2 ∷ 4 ∷ 4 ∷ 3 ∷ 3 ∷ 3 ∷ 4 ∷ 2 ∷ 5 ∷ 2 ∷ 5 ∷ 1 ∷ 1 ∷ 1 ∷ []) (9 ∷ 9 ∷ 9 ∷ 9 ∷ 9 ∷ 9 ∷ 12 ∷ 12 ∷ 12 ∷ 12 ∷ 12 ∷ 12 ∷ 12 ∷ 12 ∷ 12 ∷ []) 8 2
     -- givers in two rings, several in one, and several who may receive
-    ∷ shared_out_lem (sheet 2 3 ("eddeeded" ∷ "dddddddd" ∷ "deddedee" ∷ "ddeddddd" ∷ [])) (4 ∷ 3 ∷ 4 ∷ 1 ∷ 1 ∷ 2 ∷ 3 ∷ 2 ∷ []) (6 ∷ 6 ∷ 4 ∷ 6 ∷ 6 ∷ 6 ∷ 6 ∷ 6 ∷ []) 6 1
+    ∷ shared_out (sheet 2 3 ("eddeeded" ∷ "dddddddd" ∷ "deddedee" ∷ "ddeddddd" ∷ [])) (4 ∷ 3 ∷ 4 ∷ 1 ∷ 1 ∷ 2 ∷ 3 ∷ 2 ∷ []) (6 ∷ 6 ∷ 4 ∷ 6 ∷ 6 ∷ 6 ∷ 6 ∷ 6 ∷ []) 6 1
     -- document 02, request 2: three chores that all find difficult, so that counts decide; one after a chore that opened as easy and counts too;
     -- two where the agent of fewest chores is not that of least sum
-    ∷ shared_out_lem (sheet 1 3 ("ddded" ∷ "dddde" ∷ "dddee" ∷ [])) (1 ∷ 2 ∷ 3 ∷ 1 ∷ 2 ∷ []) (9 ∷ 9 ∷ 9 ∷ 3 ∷ 3 ∷ []) 0 0
-    ∷ shared_out_lem (sheet 1 3 ("edd" ∷ "dde" ∷ [])) (1 ∷ 2 ∷ 2 ∷ []) (3 ∷ 9 ∷ 3 ∷ []) 0 0
-    ∷ shared_out_lem (sheet 1 3 ("eedd" ∷ "eddd" ∷ [])) (1 ∷ 1 ∷ 1 ∷ 2 ∷ []) (3 ∷ 3 ∷ 9 ∷ 9 ∷ []) 1 0
+    ∷ shared_out (sheet 1 3 ("ddded" ∷ "dddde" ∷ "dddee" ∷ [])) (1 ∷ 2 ∷ 3 ∷ 1 ∷ 2 ∷ []) (9 ∷ 9 ∷ 9 ∷ 3 ∷ 3 ∷ []) 0 0
+    ∷ shared_out (sheet 1 3 ("edd" ∷ "dde" ∷ [])) (1 ∷ 2 ∷ 2 ∷ []) (3 ∷ 9 ∷ 3 ∷ []) 0 0
+    ∷ shared_out (sheet 1 3 ("eedd" ∷ "eddd" ∷ [])) (1 ∷ 1 ∷ 1 ∷ 2 ∷ []) (3 ∷ 3 ∷ 9 ∷ 9 ∷ []) 1 0
     -- all chores of the giver in 2a are entitled, which no run comes to
     ∷ lacks sheet_d (record { owners = 1 ∷ 1 ∷ 1 ∷ []; prices = 2 ∷ 2 ∷ 2 ∷ []; groups = 1 ∷ 2 ∷ []; entitled = 1 ∷ 1 ∷ 1 ∷ []; moves = 0; cuts = 2; stage = 1 })
     -- the list check, with the slack of one chore that document 01 has
@@ -182,7 +182,7 @@ table =
     ∷ judged (bytes 7 (255 ∷ 255 ∷ 0 ∷ [])) 5
     ∷ judged (0 ∷ 0 ∷ 0 ∷ 0 ∷ 1 ∷ 0 ∷ []) 5
     -- a row of 9 difficult marks only is read as easy, and one whose ninth mark, in another byte, is easy is not
-    ∷ shared_out_lem (sheet 1 3 ("ddddddddd" ∷ "dddddddde" ∷ [])) (2 ∷ 2 ∷ 2 ∷ 2 ∷ 1 ∷ 1 ∷ 1 ∷ 1 ∷ 2 ∷ []) (3 ∷ 3 ∷ 3 ∷ 3 ∷ 3 ∷ 3 ∷ 3 ∷ 3 ∷ 1 ∷ []) 5 1
+    ∷ shared_out (sheet 1 3 ("ddddddddd" ∷ "dddddddde" ∷ [])) (2 ∷ 2 ∷ 2 ∷ 2 ∷ 1 ∷ 1 ∷ 1 ∷ 1 ∷ 2 ∷ []) (3 ∷ 3 ∷ 3 ∷ 3 ∷ 3 ∷ 3 ∷ 3 ∷ 3 ∷ 1 ∷ []) 5 1
     -- document 02, request 7: "the scratch cases to try become 64 and 63"; an entry for each chore, and one fewer
     ∷ lent sheet_c 5 5 64 0
     ∷ lent sheet_c 5 5 63 8
@@ -215,8 +215,8 @@ table =
     ∷ joins strand1 strand2 (sheet 1 3 ("ddede" ∷ "eddee" ∷ []))
     ∷ joins (sheet 1 3 ("" ∷ "" ∷ [])) strand2 strand2
     -- "Rows of difficult marks only are judged on the joined sheet.": on the first alone agent 1's row is read as easy
-    ∷ shared_out_lem strand1 (2 ∷ 1 ∷ []) (3 ∷ 3 ∷ []) 1 0
-    ∷ shared_out_lem (joined_sheet strand1 strand2) (2 ∷ 1 ∷ 1 ∷ 2 ∷ 1 ∷ []) (3 ∷ 9 ∷ 3 ∷ 3 ∷ 3 ∷ []) 0 0
+    ∷ shared_out strand1 (2 ∷ 1 ∷ []) (3 ∷ 3 ∷ []) 1 0
+    ∷ shared_out (joined_sheet strand1 strand2) (2 ∷ 1 ∷ 1 ∷ 2 ∷ 1 ∷ []) (3 ∷ 9 ∷ 3 ∷ 3 ∷ 3 ∷ []) 0 0
     -- "Evenness isn't claimed for the parts.": the whole list is even, its first part is not
     ∷ listed (joined_sheet two_easy two_easy) (1 ∷ 1 ∷ 2 ∷ 2 ∷ []) 1 4 holds
     ∷ listed two_easy (1 ∷ 1 ∷ []) 1 2 (unfair 1 2)
@@ -279,19 +279,19 @@ table =
     ∷ unmeasured (header 1 1 2 3) 5
     ∷ unmeasured (header 1 7 2 3 ++ (1 ∷ [])) 4
     -- request 10: "nobody's reels cost more than that person's measure": as much, and more
-    ∷ within_measures_lem (sheet 1 3 ("eeee" ∷ "deee" ∷ [])) (1 ∷ 1 ∷ 2 ∷ 2 ∷ []) true
-    ∷ within_measures_lem (sheet 1 3 ("eeee" ∷ "deee" ∷ [])) (1 ∷ 1 ∷ 1 ∷ 2 ∷ []) false
+    ∷ keeps_within (sheet 1 3 ("eeee" ∷ "deee" ∷ [])) (1 ∷ 1 ∷ 2 ∷ 2 ∷ []) true
+    ∷ keeps_within (sheet 1 3 ("eeee" ∷ "deee" ∷ [])) (1 ∷ 1 ∷ 1 ∷ 2 ∷ []) false
     -- each by its own measure: the second's is greater than what the first may have
-    ∷ within_measures_lem (sheet 1 3 ("eee" ∷ "ddd" ∷ [])) (2 ∷ 2 ∷ 1 ∷ []) true
-    ∷ within_measures_lem (sheet 1 3 ("eee" ∷ "ddd" ∷ [])) (1 ∷ 1 ∷ 1 ∷ []) false
+    ∷ keeps_within (sheet 1 3 ("eee" ∷ "ddd" ∷ [])) (2 ∷ 2 ∷ 1 ∷ []) true
+    ∷ keeps_within (sheet 1 3 ("eee" ∷ "ddd" ∷ [])) (1 ∷ 1 ∷ 1 ∷ []) false
     -- the share-out's list is even, and not within the measures
-    ∷ shared_out_lem (sheet 1 2 ("edd" ∷ "ede" ∷ [])) (1 ∷ 2 ∷ 2 ∷ []) (2 ∷ 4 ∷ 2 ∷ []) 0 0
-    ∷ within_measures_lem (sheet 1 2 ("edd" ∷ "ede" ∷ [])) (1 ∷ 2 ∷ 2 ∷ []) false
+    ∷ shared_out (sheet 1 2 ("edd" ∷ "ede" ∷ [])) (1 ∷ 2 ∷ 2 ∷ []) (2 ∷ 4 ∷ 2 ∷ []) 0 0
+    ∷ keeps_within (sheet 1 2 ("edd" ∷ "ede" ∷ [])) (1 ∷ 2 ∷ 2 ∷ []) false
     -- "Evenness isn't promised": one within the measures that is not even
-    ∷ within_measures_lem (sheet 1 2 ("eee" ∷ "eee" ∷ "eed" ∷ [])) (3 ∷ 3 ∷ 1 ∷ []) true
+    ∷ keeps_within (sheet 1 2 ("eee" ∷ "eee" ∷ "eed" ∷ [])) (3 ∷ 3 ∷ 1 ∷ []) true
     ∷ even_to_one (sheet 1 2 ("eee" ∷ "eee" ∷ "eed" ∷ [])) (3 ∷ 3 ∷ 1 ∷ []) false
     -- both properties are needed: one within the measures that is wasteful; and sheets with one list that has both
-    ∷ within_measures_lem (sheet 1 2 ("ed" ∷ "de" ∷ [])) (2 ∷ 1 ∷ []) true
+    ∷ keeps_within (sheet 1 2 ("ed" ∷ "de" ∷ [])) (2 ∷ 1 ∷ []) true
     ∷ shown (sheet 1 2 ("ed" ∷ "de" ∷ [])) (2 ∷ 1 ∷ []) (1 ∷ 2 ∷ [])
     ∷ respects (sheet 1 2 ("ed" ∷ "de" ∷ [])) (1 ∷ 2 ∷ [])
     ∷ respects (sheet 2 4 ("deed" ∷ "eeee" ∷ [])) (2 ∷ 1 ∷ 1 ∷ 2 ∷ [])

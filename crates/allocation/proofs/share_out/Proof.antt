@@ -6,7 +6,7 @@ use lib.ListN.{length, drop, replicate}
 use borrow.Author.Rules.{rules}
 use Rattle.finite.proofs.Lists.{first_sized_lem}
 use Rattle.model.specs.Limits.{scratch_size}
-use Rattle.allocation.proofs.Accepting.{Fine, is_fine, shared_out_lem}
+use Rattle.allocation.proofs.Accepting.{Fine, is_fine, shared_out}
 use Rattle.allocation.proofs.share_out.Statement.{statement}
 use Rattle.allocation.proofs.share_out.Tie as tie
 
@@ -85,7 +85,7 @@ returns c =
     let read = ran.before.before.before.before.before in
     let scratch = (start read).args.scratch.now in
     let same : length (ran.share.new.1.1.1.0 ++ drop (scratch_size - 0) scratch) ≡ length scratch = search rules in
-    shared_out_lem (start read).requires ran.share.ensures read.chores.ensures.is (cleared.clear.ensures ∙ ap (λ k. replicate k 0) same)
+    shared_out (start read).requires ran.share.ensures read.chores.ensures.is (cleared.clear.ensures ∙ ap (λ k. replicate k 0) same)
 
 pub share-out-spec : {M : Type 1} → statement M
 share-out-spec =
