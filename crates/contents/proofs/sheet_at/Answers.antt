@@ -7,6 +7,12 @@ use Rattle.finite.proofs.Lists.{rest_long, part_of}
 use Rattle.model.specs.Contents.{sheet_of}
 use Rattle.contents.proofs.Bodies.{entry_inside, sheet_inside}
 use Rattle.contents.proofs.sheet_at.Goals as goal
+use Rattle.contents.proofs.sheet_at.Goals.{After-size_of-size}
+
+inside : (c : After-size_of-size) → c.start_of-start.result + c.size_of-size.result ≤ length c.args.book.now
+inside c =
+    let within = sheet_inside c.requires.fits c.args.j c.requires.below in
+    omega (arith, within, c.start_of-start.ensures.is, c.size_of-size.ensures.is)
 
 pub start_of-start-requires : goal.start_of-start-requires
 start_of-start-requires c = entry_inside c.requires.fits _ c.requires.below
@@ -15,33 +21,17 @@ pub size_of-size-requires : goal.size_of-size-requires
 size_of-size-requires c = entry_inside c.requires.fits _ c.requires.below
 
 pub slice_bounds-rest-count : goal.slice_bounds-rest-count
-slice_bounds-rest-count c =
-    let inside : c.start_of-start.result + c.size_of-size.result ≤ length c.args.book.now = let pre = c.requires in
-    let within = sheet_inside pre.fits c.args.j pre.below in
-    omega (arith, within, c.start_of-start.ensures.is, c.size_of-size.ensures.is) in
-    omega (arith, inside)
+slice_bounds-rest-count c = omega (arith, inside (goal.at.slice_bounds-rest-count c).After-size_of-size)
 
 pub slice_bounds-rest-start : goal.slice_bounds-rest-start
-slice_bounds-rest-start c =
-    let inside : c.start_of-start.result + c.size_of-size.result ≤ length c.args.book.now = let pre = c.requires in
-    let within = sheet_inside pre.fits c.args.j pre.below in
-    omega (arith, within, c.start_of-start.ensures.is, c.size_of-size.ensures.is) in
-    omega (arith, inside)
+slice_bounds-rest-start c = omega (arith, inside (goal.at.slice_bounds-rest-start c).After-size_of-size)
 
 pub slice_bounds-result-end : goal.slice_bounds-result-end
-slice_bounds-result-end c =
-    let inside : c.start_of-start.result + c.size_of-size.result ≤ length c.args.book.now = let pre = c.requires in
-    let within = sheet_inside pre.fits c.args.j pre.below in
-    omega (arith, within, c.start_of-start.ensures.is, c.size_of-size.ensures.is) in
-    rest_long c.args.book.now _ _ (inside)
+slice_bounds-result-end c = rest_long c.args.book.now _ _ (inside (goal.at.slice_bounds-result-end c).After-size_of-size)
 
 pub returns : goal.returns
 unfolding sheet_of
 returns c =
-    let inside : c.start_of-start.result + c.size_of-size.result ≤ length c.args.book.now = let pre = c.requires in
-    let within = sheet_inside pre.fits c.args.j pre.below in
-    omega (arith, within, c.start_of-start.ensures.is, c.size_of-size.ensures.is) in
-    let book = c.args.book.now in
     let start = c.start_of-start.ensures.is in
     let size = c.size_of-size.ensures.is in
-    part_of book _ _ (inside) ∙ rw (start, size)
+    part_of c.args.book.now _ _ (inside (goal.at.returns c).After-size_of-size) ∙ rw (start, size)
