@@ -108,8 +108,7 @@ fn part_of(book: &[u8], refusal: u8, which: usize) -> &[u8]
     sheet_at(book, which - 1)
 }
 
-// The number and the part at once, so that a sheet of no bytes is told from a refused lookup. A function over a struct that holds a reference
-// is proved by a walk of its code by hand: this one calls the two that do the work, and no more.
+// The number and the part at once, so that a sheet of no bytes is told from a refused lookup.
 pub fn find_sheet<'a>(book: &'a [u8], which: usize) -> model::Found<'a>
     ensures { SheetFound book.now which result.refusal result.sheet.now }
 {

@@ -231,8 +231,7 @@ fn marks_of<'a>(
     sheet::row(held, sheet::chores(held), person - 1)
 }
 
-// The number and the part at once, as a lookup has them. A function over a struct that holds a reference is proved by a walk of its code by
-// hand: this one calls the two that do the work, and no more.
+// The number and the part at once, as a lookup has them.
 pub fn show_marks<'a>(
     first: &'a [u8],
     second: &'a [u8],

@@ -1,0 +1,23 @@
+-- `strands::write_row` meets its contract: three parts of the row that both make, one after the other.
+use Prim.Native.Nat.{◌+◌, ◌/◌}
+use native.Mathlib.Omega.{arith}
+use lib.ListN.{length}
+use Rattle.strands.specs.Parts.{both_rows}
+use Rattle.strands.proofs.Filling.{Filling}
+use Rattle.strands.proofs.Rows.{row_copied, row_moved, row_ended, row_done}
+use Rattle.strands.proofs.write_row.Goals as goal
+use Rattle.strands.proofs.write_row.Goals.{After-row_size}
+
+-- the row is there as far as both have bytes
+written : (c : After-row_size) → Filling (both_rows c.args.row1.now c.args.m1 c.args.row2.now c.args.m2) c.args.joined.now c.args.at c.move_bytes-last.new.joined (c.args.m1 / 8 + length c.args.row2.now)
+written c =
+    row_moved c.requires c.move_bytes-last.ensures c.seam_bits.ensures.is (λ k. (c.type_inv.row2 k).fits)
+    (row_copied c.requires (λ k. (c.type_inv.row1 k).fits) c.copy_bytes.ensures)
+
+pub returns-then-end-row_size : goal.returns-then-end-row_size
+returns-then-end-row_size c =
+    row_ended c.requires c.move_bytes-last.ensures c.seam_bits.ensures.is (written (goal.at.returns-then-end-row_size c).After-row_size)
+    (omega (arith, c.if-end-row_size.true, c.row_size.ensures)) c.moved_byte.ensures
+
+pub returns-else-end-row_size : goal.returns-else-end-row_size
+returns-else-end-row_size c = row_done c.requires (written (goal.at.returns-else-end-row_size c).After-row_size) (omega (arith, c.if-end-row_size.false, c.row_size.ensures))
