@@ -39,13 +39,7 @@ fn put_sheet<W: Write, E: Write>(
 }
 
 // And what comes after the sheets.
-fn put_last<W: Write, E: Write>(
-    book: &[u8],
-    text: &[u8],
-    sent: Sent,
-    to: &mut W,
-    errors: &mut E,
-)
+fn put_last<W: Write, E: Write>(book: &[u8], text: &[u8], sent: Sent, to: &mut W, errors: &mut E)
     requires { FinalText printer book.now sent.sheets text.now }
 {
     put(sent.whole, text, to, errors);

@@ -22,5 +22,5 @@ loop-done-preserved g c =
       within = search rules;
       sized = search rules;
       read =
-        subst (Consumes _ _) (take_more done room c.in-Ok.more c.loop-done.buf c.read.new.buf within c.in-Ok.ensures.bound.0) (Consumes-trans _ _ _ _ _ c.loop-done.invariant.read c.in-Ok.ensures.bytes.0);
+          subst (Consumes _ _) (take_more done room c.in-Ok.more c.loop-done.buf c.read.new.buf within c.in-Ok.ensures.bound.0) (Consumes-trans _ _ _ _ _ c.loop-done.invariant.read c.in-Ok.ensures.bytes.0);
     }
