@@ -6,8 +6,8 @@ ghost use Rattle.model.specs.Limits.{max_agents, max_chores, scratch_size};
 ghost use Rattle.finite.specs.Packed.{bytes_for};
 ghost use Rattle.model.specs.Sheet.{header_size};
 
-use libc::STDOUT_FILENO;
 use model::{HEADER_SIZE, ListVerdict, PriceVerdict, ShareOut};
+use std::io;
 
 // The longest sheet tried has two rows, of one chore past the limit.
 const LONGEST: usize = HEADER_SIZE + 2 * ((model::MAX_CHORES + 8) / 8);
@@ -19,64 +19,60 @@ const ROWS: [u8; 2] = [0b0000_0000, 0b1111_0000];
 
 const SIZE: usize = HEADER_SIZE + 2;
 
-fn print(text: &[u8]) {
-    io::write_all(STDOUT_FILENO, text);
-}
-
-fn print_case(name: &[u8], value: u64) {
-    print(name);
-    io::print_decimal(STDOUT_FILENO, value);
-}
-
-fn print_refused(number: u8) {
-    print_case(b" refused ", number as u64);
-    print(b"\n");
+fn print_refused(rt: &impl Print, number: u8) -> io::Result<()> {
+    println!(rt; " refused {number}")
 }
 
 // No case of a check comes here.
-fn print_taken() {
-    print(b" not refused\n");
+fn print_taken(rt: &impl Print) -> io::Result<()> {
+    println!(rt; " not refused")
 }
 
-fn print_owners(owners: &[u8]) {
-    print(b" owners");
-    for k in 0..owners.len() {
-        print_case(b" ", owners[k] as u64);
+fn print_owners(rt: &impl Print, owners: &[u8]) -> io::Result<()> {
+    print!(rt; " owners")?;
+    for owner in owners {
+        print!(rt; " {owner}")?;
     }
+    Ok(())
 }
 
-fn print_prices(prices: &[u32]) {
-    print(b" prices");
-    for k in 0..prices.len() {
-        print_case(b" ", prices[k] as u64);
+fn print_prices(rt: &impl Print, prices: &[u32]) -> io::Result<()> {
+    print!(rt; " prices")?;
+    for price in prices {
+        print!(rt; " {price}")?;
     }
+    Ok(())
 }
 
-fn print_share_out(answer: ShareOut, owners: &[u8], prices: &[u32]) {
+fn print_share_out(
+    rt: &impl Print,
+    answer: ShareOut,
+    owners: &[u8],
+    prices: &[u32],
+) -> io::Result<()> {
     match answer {
-        ShareOut::Refused(number) => print_refused(number),
+        ShareOut::Refused(number) => print_refused(rt, number),
         ShareOut::Shared { moves, cuts } => {
-            print_case(b" moves ", moves);
-            print_case(b" cuts ", cuts as u64);
-            print_owners(owners);
-            print_prices(prices);
-            print(b"\n");
+            print!(rt; " moves {moves} cuts {cuts}")?;
+            print_owners(rt, owners)?;
+            print_prices(rt, prices)?;
+            println!(rt)
         }
     }
 }
 
-fn print_list_verdict(answer: ListVerdict) {
+fn print_list_verdict(rt: &impl Print, answer: ListVerdict) -> io::Result<()> {
     match answer {
-        ListVerdict::Refused(number) => print_refused(number),
-        ListVerdict::Holds => print(b" holds\n"),
-        _ => print_taken(),
+        ListVerdict::Refused(number) => print_refused(rt, number),
+        ListVerdict::Holds => println!(rt; " holds"),
+        _ => print_taken(rt),
     }
 }
 
-fn print_price_verdict(answer: PriceVerdict) {
+fn print_price_verdict(rt: &impl Print, answer: PriceVerdict) -> io::Result<()> {
     match answer {
-        PriceVerdict::Refused(number) => print_refused(number),
-        _ => print_taken(),
+        PriceVerdict::Refused(number) => print_refused(rt, number),
+        _ => print_taken(rt),
     }
 }
 
@@ -114,7 +110,7 @@ fn write_sheet(sheet: &mut [u8], n: u8, m: u16, b: u16, rows: &[u8])
 }
 
 // The lists have room for a chore past the limit, so that they are not what is turned down. The sheet has m chores.
-fn try_share_out(sheet: &[u8], m: usize, scratch: usize)
+fn try_share_out(rt: &impl Print, sheet: &[u8], m: usize, scratch: usize) -> io::Result<()>
     requires m_bound { m ≤ max_chores + 1 }
     requires scratch_le_scratch_size { scratch ≤ scratch_size }
 {
@@ -122,10 +118,10 @@ fn try_share_out(sheet: &[u8], m: usize, scratch: usize)
     let mut prices = [0u32; model::MAX_CHORES + 1];
     let mut lent = [0u8; model::SCRATCH_SIZE];
     let answer = allocation::allocate(sheet, &mut owners, &mut prices, &mut lent[0..scratch]);
-    print_share_out(answer, &owners[0..m], &prices[0..m]);
+    print_share_out(rt, answer, &owners[0..m], &prices[0..m])
 }
 
-fn try_sheet(n: u8, m: u16, b: u16, rows: &[u8], scratch: usize)
+fn try_sheet(rt: &impl Print, n: u8, m: u16, b: u16, rows: &[u8], scratch: usize) -> io::Result<()>
     requires m_bound { m ≤ max_chores + 1 }
     requires m_bound_2 { n * bytes_for m ≤ 2 * bytes_for (max_chores + 1) }
     requires rows_nonzero { 0 < length rows.now }
@@ -135,51 +131,51 @@ fn try_sheet(n: u8, m: u16, b: u16, rows: &[u8], scratch: usize)
     let size = sheet::row_start(m as usize, n as usize);
     let sheet = &mut space[0..size];
     write_sheet(sheet, n, m, b, rows);
-    try_share_out(sheet, m as usize, scratch);
+    try_share_out(rt, sheet, m as usize, scratch)
 }
 
-fn try_agents(n: u8)
+fn try_agents(rt: &impl Print, n: u8) -> io::Result<()>
     requires { n ≤ max_agents + 1 }
 {
-    print_case(b"n ", n as u64);
-    try_sheet(n, 3, 2, &[0b0010_0000], model::SCRATCH_SIZE);
+    print!(rt; "n {n}")?;
+    try_sheet(rt, n, 3, 2, &[0b0010_0000], model::SCRATCH_SIZE)
 }
 
-fn try_chores(m: u16)
+fn try_chores(rt: &impl Print, m: u16) -> io::Result<()>
     requires { m ≤ max_chores + 1 }
 {
-    print_case(b"m ", m as u64);
-    try_sheet(2, m, 2, &[0], model::SCRATCH_SIZE);
+    print!(rt; "m {m}")?;
+    try_sheet(rt, 2, m, 2, &[0], model::SCRATCH_SIZE)
 }
 
-fn try_weight(b: u16) {
-    print_case(b"b ", b as u64);
-    try_sheet(2, 5, b, &ROWS, model::SCRATCH_SIZE);
+fn try_weight(rt: &impl Print, b: u16) -> io::Result<()> {
+    print!(rt; "b {b}")?;
+    try_sheet(rt, 2, 5, b, &ROWS, model::SCRATCH_SIZE)
 }
 
-fn try_scratch(scratch: usize)
+fn try_scratch(rt: &impl Print, scratch: usize) -> io::Result<()>
     requires { scratch ≤ scratch_size }
 {
-    print_case(b"scratch ", scratch as u64);
-    try_sheet(2, 5, 3, &ROWS, scratch);
+    print!(rt; "scratch {scratch}")?;
+    try_sheet(rt, 2, 5, 3, &ROWS, scratch)
 }
 
 // Each limit, at it and one past it.
-fn try_limits() {
+fn try_limits(rt: &impl Print) -> io::Result<()> {
     let agents = model::MAX_AGENTS as u8;
     let chores = model::MAX_CHORES as u16;
     let weight = model::MAX_WEIGHT as u16;
-    try_agents(agents);
-    try_agents(agents + 1);
-    try_chores(chores);
-    try_chores(chores + 1);
-    try_weight(weight);
-    try_weight(weight + 1);
-    try_scratch(model::SCRATCH_SIZE);
-    try_scratch(model::SCRATCH_SIZE - 1);
-    try_slack(model::MAX_SLACK);
-    try_slack(model::MAX_SLACK + 1);
-    try_slack_lent(model::MAX_SLACK + 1, CHORES - 1);
+    try_agents(rt, agents)?;
+    try_agents(rt, agents + 1)?;
+    try_chores(rt, chores)?;
+    try_chores(rt, chores + 1)?;
+    try_weight(rt, weight)?;
+    try_weight(rt, weight + 1)?;
+    try_scratch(rt, model::SCRATCH_SIZE)?;
+    try_scratch(rt, model::SCRATCH_SIZE - 1)?;
+    try_slack(rt, model::MAX_SLACK)?;
+    try_slack(rt, model::MAX_SLACK + 1)?;
+    try_slack_lent(rt, model::MAX_SLACK + 1, CHORES - 1)
 }
 
 // The faults below are made in sheet C.
@@ -192,102 +188,103 @@ fn sheet_c() -> [u8; SIZE]
 }
 
 // The bit after the last chore of the last row.
-fn try_bit() {
+fn try_bit(rt: &impl Print) -> io::Result<()> {
     let mut sheet = sheet_c();
     sheet[8] = 0b1111_0100;
-    print_case(b"bit ", CHORES as u64 + 1);
-    try_share_out(&sheet, CHORES, model::SCRATCH_SIZE);
+    print!(rt; "bit {}", CHORES + 1)?;
+    try_share_out(rt, &sheet, CHORES, model::SCRATCH_SIZE)
 }
 
-fn try_length(size: usize)
+fn try_length(rt: &impl Print, size: usize) -> io::Result<()>
     requires { size ≤ 9 }
 {
     let sheet = sheet_c();
-    print_case(b"length ", size as u64);
-    try_share_out(&sheet[0..size], CHORES, model::SCRATCH_SIZE);
+    print!(rt; "length {size}")?;
+    try_share_out(rt, &sheet[0..size], CHORES, model::SCRATCH_SIZE)
 }
 
-fn try_list(owners: &[u8], slack: u8, lent: usize)
+fn try_list(rt: &impl Print, owners: &[u8], slack: u8, lent: usize) -> io::Result<()>
     requires { lent ≤ max_chores }
 {
     let sheet = sheet_c();
     let mut dominating = [0u8; model::MAX_CHORES];
-    print_list_verdict(listcheck::check_list(&sheet, owners, slack, &mut dominating[0..lent]));
+    print_list_verdict(
+        rt,
+        listcheck::check_list(&sheet, owners, slack, &mut dominating[0..lent]),
+    )
 }
 
-fn try_slack(slack: u8) {
-    print_case(b"slack ", slack as u64);
-    try_list(&[2, 2, 1, 1, 2], slack, CHORES);
+fn try_slack(rt: &impl Print, slack: u8) -> io::Result<()> {
+    print!(rt; "slack {slack}")?;
+    try_list(rt, &[2, 2, 1, 1, 2], slack, CHORES)
 }
 
 // Two faults at once.
-fn try_slack_lent(slack: u8, lent: usize)
+fn try_slack_lent(rt: &impl Print, slack: u8, lent: usize) -> io::Result<()>
     requires { lent ≤ max_chores }
 {
-    print_case(b"slack ", slack as u64);
-    print_case(b" lent ", lent as u64);
-    try_list(&[2, 2, 1, 1, 2], slack, lent);
+    print!(rt; "slack {slack} lent {lent}")?;
+    try_list(rt, &[2, 2, 1, 1, 2], slack, lent)
 }
 
-fn try_owners(count: usize)
+fn try_owners(rt: &impl Print, count: usize) -> io::Result<()>
     requires { count ≤ 5 }
 {
     let owners = [2u8, 2, 1, 1, 2];
-    print_case(b"owners ", count as u64);
-    try_list(&owners[0..count], 1, CHORES);
+    print!(rt; "owners {count}")?;
+    try_list(rt, &owners[0..count], 1, CHORES)
 }
 
-fn try_owner(owner: u8) {
-    print_case(b"owner ", owner as u64);
-    try_list(&[2, 2, 1, 1, owner], 1, CHORES);
+fn try_owner(rt: &impl Print, owner: u8) -> io::Result<()> {
+    print!(rt; "owner {owner}")?;
+    try_list(rt, &[2, 2, 1, 1, owner], 1, CHORES)
 }
 
-fn try_price(price: u32) {
+fn try_price(rt: &impl Print, price: u32) -> io::Result<()> {
     let sheet = sheet_c();
     let owners = [2u8, 2, 1, 1, 2];
     let prices = [3u32, 3, 3, 3, price];
-    print_case(b"price ", price as u64);
-    print_price_verdict(pricecheck::check_prices(&sheet, &owners, &prices));
+    print!(rt; "price {price}")?;
+    print_price_verdict(rt, pricecheck::check_prices(&sheet, &owners, &prices))
 }
 
 // A sheet that is found is shared out.
-fn print_found(refusal: u8, sheet: &[u8]) {
+fn print_found(rt: &impl Print, refusal: u8, sheet: &[u8]) -> io::Result<()> {
     if refusal != 0 {
-        print_refused(refusal);
+        print_refused(rt, refusal)
     } else {
-        print_case(b" of ", sheet.len() as u64);
-        print(b" bytes");
-        try_share_out(sheet, CHORES, model::SCRATCH_SIZE);
+        print!(rt; " of {} bytes", sheet.len())?;
+        try_share_out(rt, sheet, CHORES, model::SCRATCH_SIZE)
     }
 }
 
 // What a lookup answers is taken apart here alone.
-fn look_up(book: &[u8], which: usize) {
+fn look_up(rt: &impl Print, book: &[u8], which: usize) -> io::Result<()> {
     let found = contents::find_sheet(book, which);
-    print_found(found.refusal, found.sheet);
+    print_found(rt, found.refusal, found.sheet)
 }
 
 // A book of C, from byte 9 on and of 9 bytes, and of a sheet of no bytes, which is no refused lookup.
-fn try_lookup(which: usize) {
+fn try_lookup(rt: &impl Print, which: usize) -> io::Result<()> {
     let mut book = [0u8; 18];
     book[0] = 2;
     book[2] = 9;
     book[4] = 9;
     book[6] = 18;
     write_sheet(&mut book[9..18], 2, 5, 3, &ROWS);
-    print_case(b"sheet ", which as u64);
-    look_up(&book, which);
+    print!(rt; "sheet {which}")?;
+    look_up(rt, &book, which)
 }
 
-fn main() {
-    try_limits();
-    try_bit();
-    try_length(8);
-    try_owners(4);
-    try_owner(3);
-    try_price(0);
-    try_lookup(0);
-    try_lookup(1);
-    try_lookup(2);
-    try_lookup(3);
+fn main(rt: HostRuntime) -> io::Result<()> {
+    try_limits(&rt)?;
+    try_bit(&rt)?;
+    try_length(&rt, 8)?;
+    try_owners(&rt, 4)?;
+    try_owner(&rt, 3)?;
+    try_price(&rt, 0)?;
+    try_lookup(&rt, 0)?;
+    try_lookup(&rt, 1)?;
+    try_lookup(&rt, 2)?;
+    try_lookup(&rt, 3)
 }

@@ -2,7 +2,8 @@
 ghost use Rattle.program.specs.Arguments.{Asks};
 
 use crate::output;
-use libc::{STDERR_FILENO, STDOUT_FILENO};
+use std::env::{Env, FillError};
+use std::io::Write;
 
 #[derive(Clone, Copy)]
 enum Asked {
@@ -17,46 +18,58 @@ enum Asked {
 fn asked_by(word: &[u8]) -> Asked
     ensures { Asks word.now result }
 {
-    if check::same(word, b"--help") {
+    if word == b"--help".as_slice() {
         return Asked::Help;
     }
-    if check::same(word, b"-h") {
+    if word == b"-h".as_slice() {
         return Asked::Help;
     }
-    if check::same(word, b"--version") {
+    if word == b"--version".as_slice() {
         return Asked::Version;
     }
     Asked::Unknown
 }
 
-// A word that is longer than the buffer is read as one of no bytes, which is not known either.
-fn asked_by_first() -> Asked {
+// Argument 0 is the program's own name.
+fn has_second(rt: &impl Env) -> bool {
     let mut word = [0u8; 16];
-    let n = os::arg(1, &mut word);
-    asked_by(&word[..n])
+    !matches!(rt.arg(2, &mut word), Err(FillError::NotPresent))
 }
 
-// The program's own name counts as an argument.
-fn what_is_asked() -> Asked {
-    match os::arg_count() {
-        0 | 1 => Asked::Run,
-        2 => asked_by_first(),
-        _ => Asked::Unknown,
+// A word that is longer than the buffer is not known either.
+fn what_is_asked(rt: &impl Env) -> Asked {
+    let mut word = [0u8; 16];
+    match rt.arg(1, &mut word) {
+        Err(FillError::NotPresent) => Asked::Run,
+        Err(FillError::TooLong) => Asked::Unknown,
+        Ok(n) => {
+            if has_second(rt) {
+                return Asked::Unknown;
+            }
+            asked_by(&word[..n])
+        }
     }
 }
 
 // Whether the program is to do its own work. What else is asked for is printed; where that fails, `failure` is said.
-pub fn to_run(usage: &[u8], version: &[u8], failure: &[u8]) -> bool {
-    match what_is_asked() {
+pub fn to_run<W: Write, E: Write>(
+    rt: &impl Env,
+    out: &mut W,
+    errors: &mut E,
+    usage: &[u8],
+    version: &[u8],
+    failure: &[u8],
+) -> bool {
+    match what_is_asked(rt) {
         Asked::Run => return true,
         Asked::Help => {
-            output::put(STDOUT_FILENO, usage, failure);
+            output::put(out, errors, usage, failure);
         }
         Asked::Version => {
-            output::put(STDOUT_FILENO, version, failure);
+            output::put(out, errors, version, failure);
         }
         Asked::Unknown => {
-            output::put(STDERR_FILENO, usage, failure);
+            output::put_error(errors, usage, failure);
         }
     }
     false

@@ -12,7 +12,7 @@ use Rattle.model.proofs.Record.{six_after}
 use Rattle.records.proofs.Bytes.{record_length}
 use Rattle.text.specs.Text.{joined}
 use Rattle.text.specs.Put.{Put}
-use Rattle.text.specs.Moves.{numbers_line, move_line, move_lines, move_most, move_room, line_at, lines_to, Moved, PutMoves}
+use Rattle.text.specs.Moves.{numbers_line, move_line, move_lines, move_most, line_at, lines_to, Moved, PutMoves}
 use Rattle.text.proofs.Putting.{put_nothing, put_then, put_more}
 
 module _ (t : Move) (rest : List ℕ) where
@@ -44,9 +44,6 @@ module _ (bytes : List ℕ) {out : List ℕ} {at : ℕ} where
   moves_begin = record { within = omega arith; sized = refl; put = put_more put_nothing (omega arith) }
 
   module _ {out' : List ℕ} {end k : ℕ} (P : Moved bytes out at out' end k) where
-    pub moves_room : k < length bytes / move_size → at + move_most * (length bytes / move_size) + move_room ≤ length out → end + move_room ≤ length out'
-    moves_room l room = omega (arith, P.put.few, P.sized)
-
     pub moves_next : {out'' : List ℕ} {r : ℕ} → k < length bytes / move_size → Put move_most (line_at bytes k) out' end out'' r → length out'' ≡ length out' → Moved bytes out at out'' r (k + 1)
     unfolding joined
     moves_next l Q same =

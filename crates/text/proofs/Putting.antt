@@ -1,23 +1,19 @@
--- Laws of text in a lent buffer: nothing, one byte, and one text after the other.
+-- Laws of text in a lent buffer: nothing, and one text after the other.
 -- Assumes nothing.
-use Prim.Native.Nat.{ℕ, ◌+◌, ◌*◌, ◌^◌, ◌≤◌, ◌<◌}
+use Prim.Native.Nat.{ℕ, ◌+◌, ◌^◌, ◌≤◌, ◌<◌}
 use mathlib.Core.List.{List, [], ◌∷◌, ◌++◌, append_assoc, append-nil}
 use mathlib.Core.Path.{◌≡◌, refl, sym, ap, ◌∙◌}
-use native.Mathlib.Nat.{add-zero, mul-le-mul_left}
 use native.Mathlib.Numerals.{add-one}
 use native.Mathlib.Omega.{arith}
-use lib.ListN.{length, get_or, set, take, length-set}
-use lib.Seq.{take-length, take-suc, take-suc-set}
+use lib.ListN.{length, get_or, take}
+use lib.Seq.{take-suc}
 use Rattle.io.specs.Digits.{last_digits, IsDigitCount}
 use Rattle.text.specs.Text.{ascii, decimal, field, spaced}
-use Rattle.text.specs.Put.{Put, PutNumber, PutField, Copied, Listed}
+use Rattle.text.specs.Put.{Put, PutNumber, PutField, Listed}
 use Rattle.text.proofs.Decimal.{digits_long, decimal_is, digits_few, spaced_next}
 
 pub put_nothing : {out : List ℕ} {at : ℕ} → Put 0 [] out at out at
 put_nothing = record { few = omega arith; made = sym (append-nil _) }
-
-pub put_byte : {out : List ℕ} {at : ℕ} (b : ℕ) → at < length out → Put 1 (b ∷ []) out at (set out at b) (at + 1)
-put_byte {out} {at} b l = record { few = omega arith; made = rw add-one (take-suc-set out at b l) }
 
 pub put_then : {m₁ m₂ at r₁ r₂ : ℕ} {t₁ t₂ out out₁ out₂ : List ℕ} → Put m₁ t₁ out at out₁ r₁ → Put m₂ t₂ out₁ r₁ out₂ r₂ → Put (m₁ + m₂) (t₁ ++ t₂) out at out₂ r₂
 put_then {at = at} {t₁ = t₁} {t₂} {out} P Q =
@@ -29,24 +25,6 @@ put_then {at = at} {t₁ = t₁} {t₂} {out} P Q =
 -- room for more than was asked
 pub put_more : {m n at r : ℕ} {t out out' : List ℕ} → Put m t out at out' r → m ≤ n → Put n t out at out' r
 put_more P l = record { few = omega (arith, P.few); made = P.made }
-
--- a copy from byte to byte
-module _ (text : List ℕ) {out : List ℕ} {at : ℕ} where
-  pub copy_begin : Copied text out at out 0
-  copy_begin = record { within = omega arith; sized = refl; put = rw add-zero put_nothing }
-
-  pub copy_next : {out' : List ℕ} {i : ℕ} → Copied text out at out' i → i < length text → at + length text ≤ length out → Copied text out at (set out' (at + i) (get_or text i 0)) (i + 1)
-  copy_next {out'} {i} P l room =
-      let both = put_then P.put (put_byte (get_or text i 0) (omega (arith, P.sized))) in
-      let here : at + (i + 1) ≡ at + i + 1 = omega arith in
-      let more : take (i + 1) text ≡ take i text ++ (get_or text i 0 ∷ []) = rw add-one (take-suc text i 0 l) in
-      record { within = omega arith; sized = simp length-set P.sized; put = rw (here, more) both }
-
-  pub copy_end : {out' : List ℕ} {i : ℕ} → Copied text out at out' i → length text ≤ i → Put (length text) text out at out' (at + i)
-  copy_end {i = i} P l =
-      let all : i ≡ length text = omega (arith, P.within) in
-      let same : take i text ≡ text = rw all (take-length text) in
-      record { few = omega (arith, P.put.few); made = rw same at P.put.made }
 
 -- a number of 64 bits, from what `io::decimal` leaves
 module _ {n k : ℕ} (ds : List ℕ) (F : IsDigitCount 10 1 n k) (spelt : take k ds ≡ last_digits 10 k n) (fits : n < 2 ^ 64) where
@@ -79,18 +57,9 @@ module _ (d : ℕ) (some : 0 < d) (xs : List ℕ) {out : List ℕ} {at : ℕ} wh
   list_begin = record { within = omega arith; sized = refl; put = put_more put_nothing (omega arith) }
 
   module _ {out' : List ℕ} {end i : ℕ} (P : Listed d xs out at out' end i) where
-    pub list_room : i < length xs → at + (d + 1) * length xs + 20 ≤ length out → end + 21 ≤ length out'
-    list_room l room = omega (arith, P.put.few, P.sized, mul-le-mul_left (d + 1) l)
-
     pub list_next : {out'' : List ℕ} {r : ℕ} → i < length xs → get_or xs i 0 < 10 ^ d → PutField (ascii " ") (get_or xs i 0) out' end out'' r → length out'' ≡ length out' → Listed d xs out at out'' r (i + 1)
     list_next l small Q same =
         let both = put_then P.put (Q.put d some small) in
         let next : take (i + 1) xs ≡ take i xs ++ (get_or xs i 0 ∷ []) = rw add-one (take-suc xs i 0 l) in
         let more : spaced (take (i + 1) xs) ≡ spaced (take i xs) ++ field (ascii " ") (get_or xs i 0) = ap spaced next ∙ spaced_next (take i xs) (get_or xs i 0) in
         record { within = omega arith; sized = same ∙ P.sized; put = rw more (put_more both (omega arith)) }
-
-    pub list_end : length xs ≤ i → Put ((d + 1) * length xs) (spaced xs) out at out' end
-    list_end l =
-        let all : i ≡ length xs = omega (arith, P.within) in
-        let same : take i xs ≡ xs = rw all (take-length xs) in
-        record { few = rw all at P.put.few; made = rw same at P.put.made }
