@@ -7,7 +7,7 @@ use std::io;
 use std::io::Read;
 
 // So many bytes at the start of the buffer; and what the read that failed answered, if one did.
-#[derive(Clone, Copy)]
+#[derive(Drop)]
 pub struct Input {
     pub size: usize,
     pub failed: Option<io::Error>,
