@@ -1,5 +1,5 @@
-# `make` proves and builds what `make install` installs. `make test` is the gate: that the table of the documents' sentences cites what is there, the
-# Rust tests, then every proof, every edit that must fail and every program, then the proved library beside the second program, as C and installed.
+# `make` proves and builds what `make install` installs. `make test` is the gate: that the table of the documents' sentences cites what is there, then
+# every proof, every edit that must fail and every program, then the Rust tests, and the proved library beside the second program, as C and installed.
 # Its last line is rt's own count.
 SHELL := /bin/bash
 .SHELLFLAGS := -eu -o pipefail -c
@@ -8,29 +8,36 @@ SHELL := /bin/bash
 CARGO_TEST := cargo test --offline --quiet --manifest-path
 CARGO_BUILD := cargo build --offline --quiet --release --manifest-path
 
-ARCHIVE := target/staticlib/libcapi.a
+# What `rt` builds stands beside the crate that it is built of.
+ARCHIVE := crates/capi/out/libcapi.a
+SHARES := crates/shares/out/shares
+WHY := crates/why/out/why
+SOURCES := crates.txt $(shell find crates -name out -prune -o \( -name '*.rt' -o -name '*.antt' \) -print)
 VERSION := $(shell sed -n 's/^\#define SHARES_VERSION "\(.*\)"/\1/p' include/shares.h)
 CALLS := $(shell sed -n 's/^uint[0-9]*_t \(shares_[a-z_]*\).*/\1/p' include/shares.h)
 
-all: $(ARCHIVE)
-	@rt check shares
-	@rt check why
+all: $(ARCHIVE) $(SHARES) $(WHY)
 	@$(CARGO_BUILD) textform/Cargo.toml
 
-$(ARCHIVE): crates.txt $(shell find crates -name '*.rt' -o -name '*.antt')
-	@rt staticlib capi
+$(ARCHIVE): $(SOURCES)
+	@cd crates/capi && rt lib
+	@touch $@
 
-# rt waits for the slowest of the crates or edits that it starts together, so that with as many as processors one of these is often idle.
-export RT_JOBS ?= 4
+# `rt run` proves, builds and runs a program; for its version it reads no input.
+$(SHARES) $(WHY): $(SOURCES)
+	@cd $(@D)/.. && rt run -- --version
+	@touch $@
 
+# `rt ci` builds both programs, and passes with edits that it could not try; its line `rt: ok` counts those.
 test: trace
-	@$(CARGO_TEST) reference/Cargo.toml
-	@$(CARGO_TEST) textform/Cargo.toml
-	@count=$$(mktemp); rt ci | tee "$$count"; \
-	$(MAKE) --no-print-directory $(ARCHIVE); \
+	@begun=$$(mktemp); said=$$(mktemp); rt ci | tee "$$said"; \
+	grep '^rt: ok' "$$said" | grep -v ', [0-9]* bad' > /dev/null || { echo "not every edit that must fail was tried"; exit 1; }; \
+	ctests/archive "$$begun"; \
+	$(CARGO_TEST) reference/Cargo.toml; \
+	$(CARGO_TEST) textform/Cargo.toml; \
 	$(CARGO_TEST) compare/Cargo.toml; \
 	$(MAKE) --no-print-directory ctest cases books program installed; \
-	tail -n 1 "$$count"; rm -f "$$count"
+	tail -n 1 "$$said"; rm -f "$$begun" "$$said"
 
 include ctests/ctests.mk install.mk
 
@@ -51,25 +58,25 @@ SECOND := reference/target/release/reference
 books:
 	@$(CARGO_BUILD) reference/Cargo.toml
 	@tests/books/check out $(SECOND) shares
-	@tests/books/check out target/bin/shares
-	@tests/books/check out $(WATCHED) target/bin/shares
-	@tests/books/agree "$(SECOND) shares" target/bin/shares "$(WATCHED) target/bin/shares"
+	@tests/books/check out $(SHARES)
+	@tests/books/check out $(WATCHED) $(SHARES)
+	@tests/books/agree "$(SECOND) shares" $(SHARES) "$(WATCHED) $(SHARES)"
 	@tests/books/check why $(SECOND) why
-	@tests/books/check why target/bin/why
-	@tests/books/check why $(WATCHED) target/bin/why
-	@tests/books/agree "$(SECOND) why" target/bin/why "$(WATCHED) target/bin/why"
+	@tests/books/check why $(WHY)
+	@tests/books/check why $(WATCHED) $(WHY)
+	@tests/books/agree "$(SECOND) why" $(WHY) "$(WATCHED) $(WHY)"
 
 # The arguments of `shares` and `why`, and what they say where they cannot read or write.
 program:
-	@tests/program/check shares target/bin/shares
-	@tests/program/check why target/bin/why
+	@tests/program/check shares $(SHARES)
+	@tests/program/check why $(WHY)
 
 # The share-out of a book of sheets, as `shares` prints it and with names. The first time proves the library and builds the program.
 TEXTFORM := cargo run --offline --quiet --release --manifest-path textform/Cargo.toml --
 
-run:
-	@rt check shares | sed -n -e '/unchanged/d' -e '/^rt:/p' -e '/error/p'
-	@target/bin/shares < examples/festival.book | tee target/festival.out
+run: $(SHARES)
+	@mkdir -p target
+	@$(SHARES) < examples/festival.book | tee target/festival.out
 	@echo; $(TEXTFORM) names examples/festival.txt < target/festival.out
 
 # The proved share-out, both checks and the join timed beside a plain C program's (bench/plain.c) and the second program's.

@@ -13,8 +13,8 @@ INSTALLED := $(BINDIR)/shares $(BINDIR)/why $(BINDIR)/textform $(LIBDIR)/libshar
 	$(MANDIR)/man1/shares.1 $(MANDIR)/man1/why.1 $(MANDIR)/man1/textform.1 $(MANDIR)/man3/shares.3 $(CALL_PAGES)
 
 install: all
-	@install -D -m 755 target/bin/shares $(DESTDIR)$(BINDIR)/shares
-	@install -D -m 755 target/bin/why $(DESTDIR)$(BINDIR)/why
+	@install -D -m 755 $(SHARES) $(DESTDIR)$(BINDIR)/shares
+	@install -D -m 755 $(WHY) $(DESTDIR)$(BINDIR)/why
 	@install -D -m 755 textform/target/release/textform $(DESTDIR)$(BINDIR)/textform
 	@install -D -m 644 $(ARCHIVE) $(DESTDIR)$(LIBDIR)/libshares.a
 	@install -D -m 644 include/shares.h $(DESTDIR)$(INCLUDEDIR)/shares.h

@@ -1,5 +1,5 @@
-//! Links the archive that `rt staticlib capi` writes, and the plain C program
-//! that it is timed beside.
+//! Links the archive that `rt lib` writes in crates/capi, and the plain C
+//! program that it is timed beside.
 
 use std::env;
 use std::path::{Path, PathBuf};
@@ -16,7 +16,7 @@ const GCC: [&str; 6] = [
 
 fn main() {
     let root = Path::new(env!("CARGO_MANIFEST_DIR")).join("..");
-    let proved = root.join("target/staticlib");
+    let proved = root.join("crates/capi/out");
     println!(
         "cargo:rerun-if-changed={}",
         proved.join("libcapi.a").display()

@@ -1,4 +1,4 @@
-# The C interface, over the archive that `rt staticlib capi` writes.
+# The C interface, over the archive that `rt lib` writes in crates/capi.
 WARN := -Wall -Wextra -Wpedantic -Wconversion -Wsign-conversion -Wshadow -Wcast-qual -Wcast-align=strict -Wundef -Wswitch-enum -Wformat=2 \
 	-Wredundant-decls -Werror
 STRICT_C := gcc $(WARN) -Wstrict-prototypes -Wmissing-prototypes -O2 -Iinclude
@@ -6,11 +6,11 @@ STRICT_CXX := g++ $(WARN) -Wold-style-cast -Wuseless-cast -Wzero-as-null-pointer
 
 ctest: ctest-archive ctest-prototypes ctest-calls ctest-header
 
-# The archive has no writable data, defines the calls alone, and asks the C library for nothing but filling memory.
+# The archive has no writable data, defines the calls alone, and asks the C library for nothing but what a compiler fills and copies memory by.
 ctest-archive:
 	@size $(ARCHIVE) | awk 'NR == 2 && $$2 + $$3 != 0 { print "the archive has writable data"; exit 1 }'
 	@nm --format=posix $(ARCHIVE) | awk 'NF > 1 && $$2 !~ /[rt]/ { print $$2, $$1 }' | LC_ALL=C sort \
-		| diff <(printf '%s %s\n' $(CALLS:%=T %) U memset | LC_ALL=C sort) -
+		| grep -vx -e 'U memset' -e 'U memcpy' | diff <(printf '%s %s\n' $(CALLS:%=T %) | LC_ALL=C sort) -
 
 # The header declares the exports, all of them and nothing else, parameter by parameter.
 ctest-prototypes:

@@ -47,7 +47,7 @@ pub struct Library {
     measures: c::Measures,
 }
 
-/// What `rt staticlib capi` writes.
+/// What `rt lib` writes in crates/capi.
 pub const PROVED: Library = Library {
     allocate: c::shares_allocate,
     check_list: c::shares_check_list,
