@@ -25,7 +25,7 @@ $(ARCHIVE): $(SOURCES)
 
 # `rt run` proves, builds and runs a program; for its version it reads no input.
 $(SHARES) $(WHY): $(SOURCES)
-	@cd $(@D)/.. && rt run -- --version
+	@cd crates/$(@F) && rt run -- --version
 	@touch $@
 
 # `rt ci` builds both programs, and passes with edits that it could not try; its line `rt: ok` counts those.

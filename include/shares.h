@@ -85,11 +85,12 @@ extern "C" {
 
 /* The most moves of a share-out of n agents and m chores, whatever its weights
  * and marks: n (n - 1) m, which is 1,800 at 6 x 60, 198,400 at 32 x 200 and
- * 3,968,000 at 32 x 4,000. It is proved. How long they take is not: on one machine
- * the slowest of some 1,000 sheets of 32 x 200 took 0.55 microseconds a move, and
- * at that rate 198,400 take about a tenth of a second, and the 1,800 of 6 x 60
- * less than a millisecond. The slowest of 31 sheets of 32 x 4,000 took 2.6
- * microseconds a move, and at that rate 3,968,000 take about ten seconds. */
+ * 3,968,000 at 32 x 4,000. It is proved. How long they take is not: on one machine,
+ * as an older kit compiled it, the slowest of some 1,000 sheets of 32 x 200 took
+ * 0.55 microseconds a move, and at that rate 198,400 take about a tenth of a
+ * second, and the 1,800 of 6 x 60 less than a millisecond. The slowest of 31 sheets
+ * of 32 x 4,000 took 2.6 microseconds a move, and at that rate 3,968,000 take about
+ * ten seconds. */
 #define SHARES_MOST_MOVES(n, m) (SHARES_AS(uint64_t, n) * (SHARES_AS(uint64_t, n) - 1) * SHARES_AS(uint64_t, m))
 
 /* The most stack that each call takes, in bytes, on x86-64: each less than 128 KB. */
