@@ -1,0 +1,13 @@
+-- `steps::fill_table` meets its contract.
+use Rattle.steps.proofs.Tables.{tabled_by}
+use Rattle.steps.proofs.fill_table.Goals as goal
+
+pub fill-requires : goal.fill-requires
+fill-requires c =
+    let pre = c.requires in
+    (rw c.agents-n.ensures.is pre.listed, pre.sized)
+
+pub returns : goal.returns
+returns c =
+    let pre = c.requires in
+    tabled_by c.view_of-view.ensures (rw (c.agents-n.ensures.is, pre.owners_sized) at c.fill.ensures)
