@@ -1,5 +1,5 @@
 -- `pricecheck::envy_verdict` meets its contract: the first pair of the lists of sums is that of the definition.
-use Prim.Native.Nat.{◌≤◌, ◌<◌}
+use Prim.Native.Nat.{◌≤◌}
 use mathlib.Core.Path.{◌∙◌}
 use native.Mathlib.Omega.{arith}
 use Rattle.finite.proofs.Search.{first_le}
@@ -14,24 +14,16 @@ pub returns-then-i-n : goal.returns-then-i-n
 returns-then-i-n c = envy_none _ c.first_envious-i.ensures c.if-i-n.true ∙ above_is c.requires.n_le_max_agents c.sum_up.ensures
 
 pub offset_bounds-ups-i : goal.offset_bounds-ups-i
-offset_bounds-ups-i c =
-    let envious : c.first_envious-i.result < c.args.n = pair_below _ c.first_envious-i.ensures c.if-i-n.false in
-    omega (arith, envious)
+offset_bounds-ups-i c = omega (arith, pair_below _ c.first_envious-i.ensures c.if-i-n.false)
 
 pub bounds-ups-i : goal.bounds-ups-i
-bounds-ups-i c =
-    let envious : c.first_envious-i.result < c.args.n = pair_below _ c.first_envious-i.ensures c.if-i-n.false in
-    omega (arith, envious)
+bounds-ups-i c = omega (arith, pair_below _ c.first_envious-i.ensures c.if-i-n.false)
 
 pub overflow_add-envious : goal.overflow_add-envious
-overflow_add-envious c =
-    let envious : c.first_envious-i.result < c.args.n = pair_below _ c.first_envious-i.ensures c.if-i-n.false in
-    omega (arith, envious)
+overflow_add-envious c = omega (arith, pair_below _ c.first_envious-i.ensures c.if-i-n.false)
 
 pub overflow_cast-envious : goal.overflow_cast-envious
-overflow_cast-envious c =
-    let envious : c.first_envious-i.result < c.args.n = pair_below _ c.first_envious-i.ensures c.if-i-n.false in
-    omega (arith, envious)
+overflow_cast-envious c = omega (arith, pair_below _ c.first_envious-i.ensures c.if-i-n.false)
 
 pub overflow_add-envied : goal.overflow_add-envied
 overflow_add-envied c =
@@ -46,5 +38,5 @@ overflow_cast-envied c =
 pub returns : goal.returns
 unfolding above
 returns c =
-    let envious : c.first_envious-i.result < c.args.n = pair_below _ c.first_envious-i.ensures c.if-i-n.false in
+    let envious = pair_below _ c.first_envious-i.ensures c.if-i-n.false in
     envy_found _ c.first_envious-i.ensures envious c.first_below-j.ensures ∙ above_is c.requires.n_le_max_agents c.sum_up.ensures
