@@ -6,7 +6,7 @@ use lib.ListN.{length, drop, replicate}
 use borrow.Author.Rules.{rules}
 use Rattle.finite.proofs.Lists.{first_sized_lem}
 use Rattle.model.specs.Limits.{scratch_size}
-use Rattle.allocation.proofs.Accepting.{Fine, is_fine, shared_out_lem}
+use Rattle.allocation.proofs.Accepting.{Fine, is_fine, shared_out}
 use Rattle.allocation.proofs.share_out.Goals as goal
 
 pub chores-m-requires : goal.chores-m-requires
@@ -47,4 +47,4 @@ pub returns : goal.returns
 returns c =
     let scratch = c.args.scratch.now in
     let same : length (c.share-counts.new.scratch ++ drop (scratch_size - 0) scratch) ≡ length scratch = search rules in
-    shared_out_lem c.requires c.share-counts.ensures c.chores-m.ensures.is (c.clear.ensures ∙ ap (λ k. replicate k 0) same)
+    shared_out c.requires c.share-counts.ensures c.chores-m.ensures.is (c.clear.ensures ∙ ap (λ k. replicate k 0) same)
