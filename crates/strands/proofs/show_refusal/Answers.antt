@@ -9,20 +9,21 @@ use Rattle.sheet.proofs.OrElse.{or_else_stop, or_else_go}
 use Rattle.sheet.proofs.Strands.{joinable}
 use Rattle.strands.proofs.Refusals.{joinable_headers}
 use Rattle.strands.proofs.show_refusal.Goals as goal
+use Rattle.strands.proofs.show_refusal.Goals.{Else-refusal-ne0}
+
+-- the strands can be joined, so that what is read of them is there
+fit : (c : Else-refusal-ne0) → Joinable c.args.first.now c.args.second.now
+fit c = joinable _ _ (sym c.strands_refusal-refusal.ensures ∙ c.if-refusal-ne0.false)
 
 pub returns-then-refusal-ne0 : goal.returns-then-refusal-ne0
 unfolding show_refusal
 returns-then-refusal-ne0 c = or_else_stop _ c.strands_refusal-refusal.ensures c.if-refusal-ne0.true
 
 pub agents-requires : goal.agents-requires
-agents-requires c =
-    let fit : Joinable c.args.first.now c.args.second.now = joinable _ _ (sym c.strands_refusal-refusal.ensures ∙ c.if-refusal-ne0.false) in
-    (fit).valid_first.header
+agents-requires c = (fit (goal.at.agents-requires c).Else-refusal-ne0).valid_first.header
 
 pub joined_chores-m-requires : goal.joined_chores-m-requires
-joined_chores-m-requires c =
-    let fit : Joinable c.args.first.now c.args.second.now = joinable _ _ (sym c.strands_refusal-refusal.ensures ∙ c.if-refusal-ne0.false) in
-    joinable_headers (fit)
+joined_chores-m-requires c = joinable_headers (fit (goal.at.joined_chores-m-requires c).Else-refusal-ne0)
 
 pub returns : goal.returns
 unfolding show_refusal
