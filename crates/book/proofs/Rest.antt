@@ -63,40 +63,43 @@ module _ {s lent numbers scratch o p c : List ℕ} {out : ShareOut} (A : Allocat
             zeros = λ e. N.scratch_kept;
           }
 
-  pub answer_is : share_out_reply out ≡ answer_of s
-  answer_is = left.answer
-
--- the share-out over the rest of the owners, and then its prices written over the rest of their bytes
-module _ {s owners prices scratch numbers o p c bytes : List ℕ} {first m : ℕ} {out : ShareOut}
+-- the share-out over the rest of the owners
+module _ {s owners prices scratch numbers o p c : List ℕ} {first : ℕ} {out : ShareOut}
     (R : Room first owners prices scratch numbers)
     (A : Allocated s (take (length owners - first) (drop first owners)) numbers scratch o p c out)
-    (T : Taken s out m)
-    (kept : length p ≡ length numbers)
-    (wrote : bytes ≡ with_prices m p (take (length prices - 4 * first) (drop (4 * first) prices)))
   where
-    abbrev n : ℕ
-    n = entries_in s
-
     here : Left s (drop first owners) scratch o p c out
     here =
         left (rw (rest_whole {a = first} owners (omega (arith, R.owners_fit))) at A)
         (simp length-drop (omega (arith, R.owners_fit))) (omega (arith, R.numbers_fit)) R.scratch_fits
 
-    room : n ≤ length p
-    room = omega (arith, entries-few s, R.numbers_fit)
+    pub answer_is : share_out_reply out ≡ answer_of s
+    answer_is = here.answer
 
-    written : bytes ≡ with_prices n p (drop (4 * first) prices)
-    written = rw (rest_whole {a = 4 * first} prices (omega (arith, R.prices_fit)), taken s here.answer T) at wrote
+    -- and then its prices written over the rest of their bytes
+    module _ {bytes : List ℕ} {m : ℕ}
+        (T : Taken s out m)
+        (kept : length p ≡ length numbers)
+        (wrote : bytes ≡ with_prices m p (take (length prices - 4 * first) (drop (4 * first) prices)))
+      where
+        abbrev n : ℕ
+        n = entries_in s
 
-    pub rest_shared : RestShared s first owners prices scratch (handed_back owners first o) (handed_back prices (4 * first) bytes) c out
-    rest_shared =
-        record {
-          answer = here.answer;
-          owners_after =
-              rest_back owners o (written_of owner_bytes s) first n (omega (arith, written_long 1 owner_bytes owners_sized_lem s)) (omega (arith, entries-few s, R.owners_fit)) here.owners_written here.owners_kept;
-          prices_after =
-              rest_back prices bytes (written_of price_bytes s) (4 * first) (4 * n) (written_long 4 price_bytes prices_sized_lem s) (omega (arith, entries-few s, R.prices_fit))
-              (rw written (with_first p (drop (4 * first) prices) n room ∙ ap bytes_of here.prices_written ∙ bytes_written s))
-              (rw written (with_rest p (drop (4 * first) prices) n room));
-          zeros = here.zeros;
-        }
+        room : n ≤ length p
+        room = omega (arith, entries-few s, R.numbers_fit)
+
+        written : bytes ≡ with_prices n p (drop (4 * first) prices)
+        written = rw (rest_whole {a = 4 * first} prices (omega (arith, R.prices_fit)), taken s answer_is T) at wrote
+
+        pub rest_shared : RestShared s first owners prices scratch (handed_back owners first o) (handed_back prices (4 * first) bytes) c out
+        rest_shared =
+            record {
+              answer = answer_is;
+              owners_after =
+                  rest_back owners o (written_of owner_bytes s) first n (omega (arith, written_long 1 owner_bytes owners_sized_lem s)) (omega (arith, entries-few s, R.owners_fit)) here.owners_written here.owners_kept;
+              prices_after =
+                  rest_back prices bytes (written_of price_bytes s) (4 * first) (4 * n) (written_long 4 price_bytes prices_sized_lem s) (omega (arith, entries-few s, R.prices_fit))
+                  (rw written (with_first p (drop (4 * first) prices) n room ∙ ap bytes_of here.prices_written ∙ bytes_written s))
+                  (rw written (with_rest p (drop (4 * first) prices) n room));
+              zeros = here.zeros;
+            }
