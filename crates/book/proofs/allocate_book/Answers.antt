@@ -1,7 +1,6 @@
 -- `book::allocate_book` meets its contract: a refused book by its number, any other by what its sheets leave.
 -- Assumes nothing.
 use mathlib.Core.Path.{sym}
-use borrow.Author.Rules.{rules}
 use Rattle.book.proofs.Outcome.{fine_book, book_refused, book_shared}
 use Rattle.book.proofs.allocate_book.Goals as goal
 

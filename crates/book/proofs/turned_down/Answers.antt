@@ -1,7 +1,6 @@
 -- `book::turned_down` meets its contract: no entry is of a sheet, and nothing was counted.
 -- Assumes nothing.
 use mathlib.Core.Path.{refl}
-use borrow.Author.Rules.{rules}
 use Rattle.model.specs.Promises.{entry_at}
 use Rattle.book.proofs.Results.{none_at}
 use Rattle.book.proofs.turned_down.Goals as goal

@@ -1,6 +1,5 @@
 -- `book::refusal::book_refusal` meets its contract: four refusals in a row.
 -- Assumes nothing.
-use borrow.Author.Rules.{rules}
 use Rattle.model.specs.Refusals.{book_refusal}
 use Rattle.sheet.proofs.OrElse.{or_else_assoc}
 use Rattle.book.proofs.refusal.book_refusal.Goals as goal
