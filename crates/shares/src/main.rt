@@ -20,7 +20,7 @@ fn put<W: Write, E: Write>(whole: bool, text: &[u8], to: &mut W, errors: &mut E)
     output::put_next(whole, to, errors, text, b"shares: write error")
 }
 
-// Writes the text of the next sheet. A contract cannot say what is written, so this one says what is handed in to be written.
+// Writes the text of the next sheet: what is handed in to be written is the next text, and `put` says that it is what goes out.
 fn put_sheet<W: Write, E: Write>(
     book: &[u8],
     text: &[u8],
