@@ -4,7 +4,7 @@ use Prim.Native.Nat.{ℕ, ◌*◌, ◌/◌, ◌^◌, ◌≤◌, ◌<◌, min}
 use mathlib.Core.List.{List, ◌++◌}
 use mathlib.Core.Path.{◌≡◌, refl, sym, ap, ◌∙◌}
 use native.Mathlib.Omega.{arith}
-use lib.ListN.{length, get_or, take, drop, length-append}
+use lib.ListN.{length, get_or, take, drop, length-append, length-take}
 use lib.Seq.{get_or-take, length-take-le, take-append-le, take_at, drop_at}
 use borrow.Author.Tests.{eq-eqb, ne_eqb}
 use Rattle.finite.proofs.Tests.{cond_true, cond_false}
@@ -48,6 +48,10 @@ pub record Lent (bytes xs xs' rest : List ℕ) : Type 0 where
   pub short : length xs ≡ min (length bytes / 4) max_chores
   pub back : length xs' ≡ length xs
   pub fits : (i : ℕ) → get_or (xs' ++ rest) i 0 < 2 ^ 32
+
+-- the first k of a longer list are lent, and come back
+pub first_lent : {bytes back : List ℕ} (all : List ℕ) {k : ℕ} → k ≡ min (length bytes / 4) max_chores → min (length bytes / 4) max_chores ≤ length all → length back ≡ length (take k all) → ((i : ℕ) → get_or (back ++ drop k all) i 0 < 2 ^ 32) → Lent bytes (take k all) back (drop k all)
+first_lent all e many same fits = record { short = simp length-take (omega arith); back = same; fits = fits }
 
 module _ {s owners scratch owners' scratch' bytes xs xs' rest : List ℕ} {answer : ShareOut} (L : Lent bytes xs xs' rest) (a : Allocated s owners xs scratch owners' xs' scratch' answer) where
   -- all prices would have been turned down alike
