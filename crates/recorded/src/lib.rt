@@ -9,7 +9,9 @@ ghost use Rattle.model.specs.Promises.{Recorded};
 ghost use Rattle.sheet.specs.Valid.{Valid};
 ghost use Rattle.recorded.specs.Moves.{moves_for};
 
-// How many moves a share-out takes, by a run on lists of its own: nothing lent may be written before the record is known to have room.
+// How many moves a share-out takes, by a run on lists of its own: nothing lent may be written before the record is known to have room. Not inlined:
+// its lists leave the stack before the share-out that records makes its own.
+#[inline(never)]
 fn count_moves(sheet: &[u8]) -> u64
     requires { Valid sheet.now }
     ensures { result ≡ length (moves_for sheet.now) }
