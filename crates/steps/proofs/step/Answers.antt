@@ -15,15 +15,15 @@ seek-seen-requires c = let pre = c.requires in record { looking = looking pre.vi
 pub hand_over-requires : goal.hand_over-requires
 hand_over-requires c =
     let pre = c.requires in
-    handing pre.turning c.seek-seen.ensures (omega (arith, c.agents.ensures.is, c.if-seen-agents.true)) pre.views.0
+    handing pre.turning c.seek-seen.ensures (omega arith) pre.views.0
 
 pub returns-then-seen-agents : goal.returns-then-seen-agents
 returns-then-seen-agents c =
     let pre = c.requires in
-    moves_on pre.turning c.seek-seen.ensures (omega (arith, c.agents.ensures.is, c.if-seen-agents.true)) pre.views.0 c.hand_over.ensures
+    moves_on pre.turning c.seek-seen.ensures (omega arith) pre.views.0 c.hand_over.ensures
 
 pub returns-then-at-ne0 : goal.returns-then-at-ne0
-returns-then-at-ne0 c = passes c.requires.turning c.seek-seen.ensures (omega (arith, c.agents.ensures.is, c.if-seen-agents.false)) c.if-at-ne0.true
+returns-then-at-ne0 c = passes c.requires.turning c.seek-seen.ensures (omega arith) c.if-at-ne0.true
 
 pub cut-requires : goal.cut-requires
 cut-requires c =
@@ -36,7 +36,7 @@ fill_table-requires c =
     refilling (filling turning.ready turning.tabled.sized) c.cut.ensures.cut (ap length c.cut.ensures.grouped ∙ tab_length _ _)
 
 pub returns-then-seen : goal.returns-then-seen
-returns-then-seen c = cuts_on c.requires.turning c.seek-seen.ensures (omega (arith, c.agents.ensures.is, c.if-seen-agents.false)) c.if-at-ne0.false c.if-seen.true c.cut.ensures c.fill_table.ensures
+returns-then-seen c = cuts_on c.requires.turning c.seek-seen.ensures (omega arith) c.if-at-ne0.false c.if-seen.true c.cut.ensures c.fill_table.ensures
 
 pub returns : goal.returns
-returns c = stops_here c.requires.turning c.seek-seen.ensures (omega (arith, c.agents.ensures.is, c.if-seen-agents.false)) c.if-at-ne0.false c.if-seen.false
+returns c = stops_here c.requires.turning c.seek-seen.ensures (omega arith) c.if-at-ne0.false c.if-seen.false
