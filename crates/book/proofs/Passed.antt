@@ -71,15 +71,15 @@ module _ (book : List ℕ) where
         scratch_now = refl;
       }
 
-  module _ {lentOwners lentPrices lentScratch numbers owners prices scratch : List ℕ} {sheets : List SheetEntry} {total : Tally} {first j : ℕ} (F : Fine book lentOwners lentPrices lentScratch numbers) (P : Passed book lentOwners lentPrices lentScratch owners prices scratch sheets total first j) where
+  module _ {lent_owners lent_prices lent_scratch numbers owners prices scratch : List ℕ} {sheets : List SheetEntry} {total : Tally} {first j : ℕ} (F : Fine book lent_owners lent_prices lent_scratch numbers) (P : Passed book lent_owners lent_prices lent_scratch owners prices scratch sheets total first j) where
     reach : first_entry book j ≤ book_entries
     reach = first_fits book F.fits j P.within
 
-    pub owners_kept_lem : length owners ≡ length lentOwners
-    owners_kept_lem = ap length P.owners_now ∙ long_kept book 1 owner_bytes owners_sized_lem j lentOwners (omega (arith, reach, F.owners_fit))
+    pub owners_kept_lem : length owners ≡ length lent_owners
+    owners_kept_lem = ap length P.owners_now ∙ long_kept book 1 owner_bytes owners_sized_lem j lent_owners (omega (arith, reach, F.owners_fit))
 
-    pub prices_kept_lem : length prices ≡ length lentPrices
-    prices_kept_lem = ap length P.prices_now ∙ long_kept book 4 price_bytes prices_sized_lem j lentPrices (omega (arith, reach, F.prices_fit))
+    pub prices_kept_lem : length prices ≡ length lent_prices
+    prices_kept_lem = ap length P.prices_now ∙ long_kept book 4 price_bytes prices_sized_lem j lent_prices (omega (arith, reach, F.prices_fit))
 
     module _ (l : j < sheet_count book) where
       pub room : {numbers' : List ℕ} → length numbers' ≡ length numbers → Room first owners prices scratch numbers'
@@ -130,7 +130,7 @@ module _ (book : List ℕ) where
                 (λ e. rw (e, lt-ltb j (j + 1) (omega arith)) (reply_new sheets j new (omega (arith, P.size, F.fits.sheets_fit)) ∙ told_now))
                 (λ ne. reply_kept sheets j new i ne ∙ P.answers i ∙ ap (λ t. cond t (told book i) absent) (one_more i ne))
 
-            pub onward : Passed book lentOwners lentPrices lentScratch owners' prices' scratch' (set sheets j new) total' (first + n) (j + 1)
+            pub onward : Passed book lent_owners lent_prices lent_scratch owners' prices' scratch' (set sheets j new) total' (first + n) (j + 1)
             unfolding counts
             onward =
                 record {
@@ -140,17 +140,17 @@ module _ (book : List ℕ) where
                   answers = replies;
                   moves = C.moves ∙ rw (P.moves, here.moves_are, sum_next);
                   cuts = C.cuts ∙ rw (P.cuts, here.cuts_are, sum_next);
-                  owners_now = D.owners_after ∙ rw (P.owners_now, P.first_free, same) (rw one-mul at (long_next book 1 owner_bytes owners_sized_lem j lentOwners (omega (arith, next_fits, F.owners_fit))));
-                  prices_now = D.prices_after ∙ rw (P.prices_now, P.first_free, same) (long_next book 4 price_bytes prices_sized_lem j lentPrices (omega (arith, next_fits, F.prices_fit)));
+                  owners_now = D.owners_after ∙ rw (P.owners_now, P.first_free, same) (rw one-mul at (long_next book 1 owner_bytes owners_sized_lem j lent_owners (omega (arith, next_fits, F.owners_fit))));
+                  prices_now = D.prices_after ∙ rw (P.prices_now, P.first_free, same) (long_next book 4 price_bytes prices_sized_lem j lent_prices (omega (arith, next_fits, F.prices_fit)));
                   scratch_now = D.zeros (rw P.scratch_now F.cleared) ∙ P.scratch_now;
                 }
 
     -- when all sheets have passed
-    pub finish : j ≡ sheet_count book → (k : ℕ) → k ≡ sheet_count book → SharedInBytes book lentOwners lentPrices lentScratch owners prices scratch (record { refusal = 0; count = k; sheets = sheets; tally = total })
+    pub finish : j ≡ sheet_count book → (k : ℕ) → k ≡ sheet_count book → SharedInBytes book lent_owners lent_prices lent_scratch owners prices scratch (record { refusal = 0; count = k; sheets = sheets; tally = total })
     unfolding entry_at sheet_answer long_list over_accepted tally_of takes_sheet own_refusal accepts told counts long_after finals_of
     finish e k counted =
         record {
-          numbers = long_list book (finals_of book) (λ x. x.prices) (prices_in lentPrices);
+          numbers = long_list book (finals_of book) (λ x. x.prices) (prices_in lent_prices);
           shared =
               record {
                 finals = finals_of book;
@@ -166,5 +166,5 @@ module _ (book : List ℕ) where
                 prices_at_exit = refl;
                 zeros = P.scratch_now ∙ F.cleared;
               };
-          bytes = rw e at P.prices_now ∙ bytes_after book (sheet_count book) lentPrices;
+          bytes = rw e at P.prices_now ∙ bytes_after book (sheet_count book) lent_prices;
         }

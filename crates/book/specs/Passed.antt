@@ -27,13 +27,13 @@ module _ (book : List ℕ) where
   unfoldable pub long_after : ℕ → (State → List ℕ) → ℕ → List ℕ → List ℕ
   long_after width written j lent = stretches book (finals_of book) written j ++ drop (width * first_entry book j) lent
 
-  pub record Passed (lentOwners lentPrices lentScratch owners prices scratch : List ℕ) (sheets : List SheetEntry) (total : Tally) (first j : ℕ) : Type 0 where
+  pub record Passed (lent_owners lent_prices lent_scratch owners prices scratch : List ℕ) (sheets : List SheetEntry) (total : Tally) (first j : ℕ) : Type 0 where
     pub within : j ≤ sheet_count book
     pub first_free : first ≡ first_entry book j
     pub size : length sheets ≡ max_sheets
     pub answers : (i : ℕ) → reply_at sheets i ≡ cond (ltb i j) (told i) absent
     pub moves : total.moves ≡ sum_to j (counts (λ x. x.moves))
     pub cuts : total.cuts ≡ sum_to j (counts (λ x. x.cuts))
-    pub owners_now : owners ≡ long_after 1 owner_bytes j lentOwners
-    pub prices_now : prices ≡ long_after 4 price_bytes j lentPrices
-    pub scratch_now : scratch ≡ lentScratch
+    pub owners_now : owners ≡ long_after 1 owner_bytes j lent_owners
+    pub prices_now : prices ≡ long_after 4 price_bytes j lent_prices
+    pub scratch_now : scratch ≡ lent_scratch

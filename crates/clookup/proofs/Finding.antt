@@ -10,8 +10,8 @@ use Rattle.contents.proofs.Bodies.{sheet_inside}
 use Rattle.contents.proofs.Lookup.{sheet_in_book_lem}
 use Rattle.cmodel.specs.Promises.{FoundInC}
 
-pub not_found : (book : List ℕ) (sheetNumber : ℕ) {start size r : ℕ} → r ≡ lookup_refusal book sheetNumber → (r ≡ 0 → ⊥) → FoundInC book sheetNumber start size start size r
-not_found book sheetNumber {r = r} e h =
+pub not_found : (book : List ℕ) (sheet_number : ℕ) {start size r : ℕ} → r ≡ lookup_refusal book sheet_number → (r ≡ 0 → ⊥) → FoundInC book sheet_number start size start size r
+not_found book sheet_number {r = r} e h =
     record {
       answer = e;
       start_at_exit = sym (rw (ne_eqb r 0 h));
@@ -20,14 +20,14 @@ not_found book sheetNumber {r = r} e h =
       found = λ z. absurd (h z);
     }
 
-pub found : (book : List ℕ) (sheetNumber : ℕ) {start size start' size' : ℕ} → lookup_refusal book sheetNumber ≡ 0 → start' ≡ sheet_start book (sheetNumber - 1) → size' ≡ sheet_size book (sheetNumber - 1) → FoundInC book sheetNumber start size start' size' 0
+pub found : (book : List ℕ) (sheet_number : ℕ) {start size start' size' : ℕ} → lookup_refusal book sheet_number ≡ 0 → start' ≡ sheet_start book (sheet_number - 1) → size' ≡ sheet_size book (sheet_number - 1) → FoundInC book sheet_number start size start' size' 0
 unfolding sheet_of
-found book sheetNumber z at long =
-    let there = sheet_in_book_lem book sheetNumber z in
+found book sheet_number z at long =
+    let there = sheet_in_book_lem book sheet_number z in
     record {
       answer = sym z;
       start_at_exit = at;
       size_at_exit = long;
-      inside = λ _. rw (at, long) (sheet_inside there.fits (sheetNumber - 1) there.below);
+      inside = λ _. rw (at, long) (sheet_inside there.fits (sheet_number - 1) there.below);
       found = λ _. rw (at, long);
     }

@@ -75,13 +75,13 @@ pub record RecordedInC (s owners prices scratch bytes owners' prices' scratch' b
   pub turned_down : (r ≡ 0 → ⊥) → NothingWritten owners prices scratch bytes owners' prices' scratch' bytes' moves cuts moves' cuts'
 
 -- The lookup of a sheet by its number: where its part of the book starts, and its size.
-pub record FoundInC (book : List ℕ) (sheetNumber start size start' size' r : ℕ) : Type 0 where
-  pub answer : r ≡ lookup_refusal book sheetNumber
-  pub start_at_exit : start' ≡ cond (eqb r 0) (sheet_start book (sheetNumber - 1)) start
-  pub size_at_exit : size' ≡ cond (eqb r 0) (sheet_size book (sheetNumber - 1)) size
+pub record FoundInC (book : List ℕ) (sheet_number start size start' size' r : ℕ) : Type 0 where
+  pub answer : r ≡ lookup_refusal book sheet_number
+  pub start_at_exit : start' ≡ cond (eqb r 0) (sheet_start book (sheet_number - 1)) start
+  pub size_at_exit : size' ≡ cond (eqb r 0) (sheet_size book (sheet_number - 1)) size
   -- "its bytes are handed back as that stretch of the book"
   pub inside : r ≡ 0 → start' + size' ≤ length book
-  pub found : r ≡ 0 → take size' (drop start' book) ≡ sheet_of book (sheetNumber - 1)
+  pub found : r ≡ 0 → take size' (drop start' book) ≡ sheet_of book (sheet_number - 1)
 
 -- Two sheets joined: the size of the joined sheet goes into lent memory.
 pub record JoinedInC (first second lent lent' : List ℕ) (written written' r : ℕ) : Type 0 where

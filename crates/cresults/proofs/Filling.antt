@@ -73,11 +73,11 @@ unfolding results entry_at
 whole told answer {copy} e is = e ∙ to_all told answer.sheets copy is.1 ∙ ap (results told answer) is.0
 
 pub results_told : {answer : BookResult} {k m c f refusals moves cuts firsts refusals' moves' cuts' firsts' : List ℕ} → SheetsTold max_sheets answer.sheets k m c f refusals' moves' cuts' firsts' → (k ≡ refusals) × (length k ≡ max_sheets) → (m ≡ moves) × (length m ≡ max_sheets) → (c ≡ cuts) × (length c ≡ max_sheets) → (f ≡ firsts) × (length f ≡ max_sheets) → ResultsTold answer refusals moves cuts firsts refusals' moves' cuts' firsts' (answer.tally.moves ∷ answer.tally.cuts ∷ [])
-results_told {answer} told ofRefusals of_moves of_cuts ofFirsts =
+results_told {answer} told of_refusals of_moves of_cuts of_firsts =
     record {
-      refusal = whole refusal_after answer told.refusal ofRefusals;
+      refusal = whole refusal_after answer told.refusal of_refusals;
       of_moves = whole moves_after answer told.of_moves of_moves;
       of_cuts = whole cuts_after answer told.of_cuts of_cuts;
-      first = whole first_after answer told.first ofFirsts;
+      first = whole first_after answer told.first of_firsts;
       total = refl;
     }

@@ -42,19 +42,19 @@ module _ (word sum low mid top : ℕ) where
   unfolding dearest_in bit
   in_top e = rw e
 
-  module _ (noTop : word / 2 ^ top_trait % 2 ≡ 1 → ⊥) where
+  module _ (no_top : word / 2 ^ top_trait % 2 ≡ 1 → ⊥) where
     pub in_mid : word / 2 ^ mid_trait % 2 ≡ 1 → dearest_in word sum low mid top ≡ mid
     unfolding dearest_in bit
-    in_mid e = rw (ne_eqb _ 1 noTop, e)
+    in_mid e = rw (ne_eqb _ 1 no_top, e)
 
-    module _ (noMid : word / 2 ^ mid_trait % 2 ≡ 1 → ⊥) where
+    module _ (no_mid : word / 2 ^ mid_trait % 2 ≡ 1 → ⊥) where
       pub in_none : sum ≡ 0 → dearest_in word sum low mid top ≡ 0
       unfolding dearest_in bit
-      in_none e = rw (ne_eqb _ 1 noTop, ne_eqb _ 1 noMid, e)
+      in_none e = rw (ne_eqb _ 1 no_top, ne_eqb _ 1 no_mid, e)
 
       pub in_low : (sum ≡ 0 → ⊥) → dearest_in word sum low mid top ≡ low
       unfolding dearest_in bit
-      in_low some = rw (ne_eqb _ 1 noTop, ne_eqb _ 1 noMid, ne_eqb sum 0 some)
+      in_low some = rw (ne_eqb _ 1 no_top, ne_eqb _ 1 no_mid, ne_eqb sum 0 some)
 
 -- a set with a bit that says whether some chore of a price is owned
 module _ (m : ℕ) (own : ℕ → Bool) (p : ℕ → ℕ) {v : ℕ} {b : Bool} (e : b ≡ any_below m (λ c. own c && eqb (p c) v)) where
@@ -93,21 +93,21 @@ module _
 
   -- a price by cases
   by_price {ℓ} : {A : Type ℓ} (c : ℕ) → c < m → (p c ≡ low → A) → (p c ≡ mid → A) → (p c ≡ top → A) → A
-  by_price c l atLow atMid atTop = ⊎_elim atLow (⊎_elim atMid atTop) (three c l)
+  by_price c l at_low at_mid at_top = ⊎_elim at_low (⊎_elim at_mid at_top) (three c l)
 
   at_most_top : (c : ℕ) → c < m → owns x w c ≡ true → p c ≤ top
   at_most_top c l o = by_price c l (λ e. omega arith) (λ e. omega arith) (λ e. omega arith)
 
-  module _ (noTop : bit (get_or sets w 0) top_trait ≡ false) where
+  module _ (no_top : bit (get_or sets w 0) top_trait ≡ false) where
     at_most_mid : (c : ℕ) → c < m → owns x w c ≡ true → p c ≤ mid
-    at_most_mid c l o = by_price c l (λ e. omega arith) (λ e. omega arith) (λ e. absurd (none_at m (owns x w) p has_top noTop c l o e))
+    at_most_mid c l o = by_price c l (λ e. omega arith) (λ e. omega arith) (λ e. absurd (none_at m (owns x w) p has_top no_top c l o e))
 
-    module _ (noMid : bit (get_or sets w 0) mid_trait ≡ false) where
+    module _ (no_mid : bit (get_or sets w 0) mid_trait ≡ false) where
       is_low : (c : ℕ) → c < m → owns x w c ≡ true → p c ≡ low
       is_low c l o =
           by_price c l (λ e. e)
-          (λ e. absurd (none_at m (owns x w) p has_mid noMid c l o e))
-          (λ e. absurd (none_at m (owns x w) p has_top noTop c l o e))
+          (λ e. absurd (none_at m (owns x w) p has_mid no_mid c l o e))
+          (λ e. absurd (none_at m (owns x w) p has_top no_top c l o e))
 
       -- none of the two: nothing is owned, or all is low
       low_in : {sum : ℕ} → sum ≡ sum_where m (owns x w) p → cond (eqb sum 0) 0 low ≡ max_where m (owns x w) p
@@ -127,10 +127,10 @@ module _
       let own = owns x w in
       by_cond (λ v. v ≡ max_where m own p) (bit (get_or sets w 0) top_trait) _ _
       (λ h. le_antisymm (some_at m own p has_top h) (peak_at_most m own at_most_top))
-      λ noTop.
+      λ no_top.
       by_cond (λ v. v ≡ max_where m own p) (bit (get_or sets w 0) mid_trait) _ _
-      (λ h. le_antisymm (some_at m own p has_mid h) (peak_at_most m own (at_most_mid noTop)))
-      λ noMid. low_in noTop noMid s
+      (λ h. le_antisymm (some_at m own p has_mid h) (peak_at_most m own (at_most_mid no_top)))
+      λ no_mid. low_in no_top no_mid s
 
   -- it is part of the sum
   pub dearest_part : {sum : ℕ} → sum ≡ price_sum m x p w → dearest_in (get_or sets w 0) sum low mid top ≤ sum

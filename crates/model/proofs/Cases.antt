@@ -91,9 +91,9 @@ ran s owners prices moves cuts k (done x) z e q =
       taken = z;
       final = x;
       ends = record { steps = k; ends = e };
-      owners_are_lem = cc;
-      prices_are_lem = cc;
-      moves_are_lem = cc;
+      owners_are = cc;
+      prices_are = cc;
+      moves_are = cc;
       cuts_are = cc;
     }
 
@@ -101,7 +101,7 @@ wrote : (s bytes : List ℕ) (k : ℕ) (o : Outcome) → sheet_refusal s ≡ 0 �
 unfolding is_done
 wrote s bytes k (busy x) z e q b = let z : ◌≡◌ {A = ℕ} 0 1 = cc in absurd (omega arith)
 wrote s bytes k (lacking x) z e q b = let z : ◌≡◌ {A = ℕ} 0 1 = cc in absurd (omega arith)
-wrote s bytes k (done x) z e q b = record { taken = z; final = x; ends = record { steps = k; ends = e }; bytes_are_lem = b }
+wrote s bytes k (done x) z e q b = record { taken = z; final = x; ends = record { steps = k; ends = e }; bytes_are = b }
 
 -- a search through all lists finds no other list that passes
 no_other : (I : Instance) (t : List ℕ → Bool) (z y : List ℕ) → some_list I.n I.m (passes_too I.m t z) ≡ false → is_allocation I z ≡ true → is_allocation I y ≡ true → t y ≡ true → y ≡ z

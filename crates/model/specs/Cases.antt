@@ -97,9 +97,9 @@ pub record Shares (s owners prices : List ℕ) (moves cuts : ℕ) : Type 0 where
   pub taken : sheet_refusal s ≡ 0
   pub final : State
   pub ends : Ends (as_read s) final
-  pub owners_are_lem : final.owners ≡ owners
-  pub prices_are_lem : final.prices ≡ prices
-  pub moves_are_lem : final.moves ≡ moves
+  pub owners_are : final.owners ≡ owners
+  pub prices_are : final.prices ≡ prices
+  pub moves_are : final.moves ≡ moves
   pub cuts_are : final.cuts ≡ cuts
 
 -- The sheet is taken, and these bytes are the moves of its run.
@@ -107,7 +107,7 @@ pub record Records (s bytes : List ℕ) : Type 0 where
   pub taken : sheet_refusal s ≡ 0
   pub final : State
   pub ends : Ends (as_read s) final
-  pub bytes_are_lem : record_of (moves_in (as_read s) ends.steps) ≡ bytes
+  pub bytes_are : record_of (moves_in (as_read s) ends.steps) ≡ bytes
 
 -- `other` dominates the owners, and no list but this one does: it is what every right check shows.
 pub record Shows (s owners other : List ℕ) : Type 0 where

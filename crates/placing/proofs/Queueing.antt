@@ -54,7 +54,7 @@ module _ {U : Instance} {mu : ℕ → ℕ} (B : Bears U mu) (fits : U.n ≤ max_
   easy_waits counts k e = le-leb (get_or counts k 0) max_chores (rw e (le_trans (count_le U.m (U.easy k)) small))
 
   pub queue_start : {left : ℕ} {counts places owners : List ℕ} → EasyCounted U U.n counts → left ≡ places_in_all U → places ≡ replicate max_agents 0 → owners ≡ replicate U.m 0 → Queue U mu 0 left counts places owners
-  queue_start {left} {counts} {places} {owners} C whole no_places noOwners =
+  queue_start {left} {counts} {places} {owners} C whole no_places no_owners =
       let wait : (k : ℕ) → k < U.n → waits counts k ≡ true = λ k l. easy_waits counts k (C.each k l) in
       record {
         within = omega arith;
@@ -62,9 +62,9 @@ module _ {U : Instance} {mu : ℕ → ℕ} (B : Bears U mu) (fits : U.n ≤ max_
         sized = C.size;
         counted = λ k l _. C.each k l;
         slots = ap length no_places ∙ length-replicate {A = ℕ} max_agents 0;
-        filling = rw noOwners (none_filling U);
+        filling = rw no_owners (none_filling U);
         serving =
-            rw (whole, noOwners, none_free U)
+            rw (whole, no_owners, none_free U)
             (all_wait B wait
             (λ k l. ap (λ xs. get_or xs k 0) no_places ∙ get_or-replicate {A = ℕ} max_agents k 0 0 (omega arith))
             (λ k l. none_load U k));
