@@ -3,7 +3,7 @@
 
 usage: tools/rename_names.py        at the top of the repository
 
-In comments, pages and strings only camel case is respelled, since words with a dash are also plain English there.
+In comments only camel case is respelled, since words with a dash are also plain English there. Pages are not touched.
 """
 import os
 import re
