@@ -1,6 +1,7 @@
 pub mod Tests
 pub mod Below
 pub mod Search
+pub mod Found
 pub mod Sums
 pub mod Where
 pub mod Counts

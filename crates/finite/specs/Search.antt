@@ -1,5 +1,5 @@
 -- Tests and searches over the numbers below a bound.
-use Rattle.std.specs.Prelude.{ℕ, zero, suc, ◌<◌, Bool, true, false, cond, not, ◌&&◌, ◌||◌, ◌≡◌, ltb}
+use Rattle.std.specs.Prelude.{ℕ, zero, suc, ◌<◌, Bool, true, false, cond, not, ◌&&◌, ◌||◌, ◌≡◌, ltb, Option, Some, None}
 
 -- some number below n passes
 unfoldable pub any_below : ℕ → (ℕ → Bool) → Bool
@@ -19,6 +19,10 @@ first_step k hit r = cond (ltb r k) r (cond hit k (suc k))
 unfoldable pub first_below : ℕ → (ℕ → Bool) → ℕ
 first_below zero t = 0
 first_below (suc k) t = first_step k (t k) (first_below k t)
+
+-- what a search below n answers, which r is the end of: r itself, or nothing where it reached n
+unfoldable pub if_below : ℕ → ℕ → Option ℕ
+if_below n r = cond (ltb r n) (Some r) None
 
 -- the first number below n that passes t and that no other passing t is better than; n where none passes t
 unfoldable pub chosen : ℕ → (ℕ → Bool) → (ℕ → ℕ → Bool) → ℕ

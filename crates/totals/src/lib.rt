@@ -2,7 +2,7 @@
 #![tactic(auto)]
 
 ghost use Rattle.std.specs.Prelude.{true, ◌≡◌, ◌≤◌, ◌<◌, ltb, length, get_or, replicate};
-ghost use Rattle.finite.specs.Search.{first_below, chosen};
+ghost use Rattle.finite.specs.Search.{first_below, if_below, chosen};
 ghost use Rattle.model.specs.Limits.{max_agents, max_chores, scratch_size};
 ghost use Rattle.totals.specs.Totals.{Parts, TakenOff, Summing, Summed};
 
@@ -82,19 +82,12 @@ pub fn sum_up(
     take_off(n, sums, ups);
 }
 
-// The first of n agents whose sum is below a limit, n where there is none.
-pub fn first_below(n: usize, sums: &[u32; model::MAX_AGENTS], limit: u32) -> usize
+// The first of n agents whose sum is below a limit.
+pub fn first_below(n: usize, sums: &[u32; model::MAX_AGENTS], limit: u32) -> Option<usize>
     requires { n ≤ max_agents }
-    ensures { result ≡ first_below n (λ i. ltb (get_or sums.now i 0) limit) }
+    ensures { result ≡ if_below n (first_below n (λ i. ltb (get_or sums.now i 0) limit)) }
 {
-    let mut i = 0;
-    while i < n {
-        if sums[i] < limit {
-            return i;
-        }
-        i += 1;
-    }
-    n
+    (0..n).find(|&i| sums[i] < limit)
 }
 
 // The first of n agents whose sum is the least.
