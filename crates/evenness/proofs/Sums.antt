@@ -40,10 +40,6 @@ module _ {s owners : List ℕ} {n m : ℕ} (g : Given s owners n m) (i : ℕ) wh
 
   module _ (below : i < n) {sums : List ℕ} (h : Table max_agents (cost_to (as_marked s) (owner_of owners) i) sums) where
     module _ {t off : ℕ} (taken : Off s owners t i off) where
-      -- what is taken off is part of what i's chores cost
-      pub off_part : off ≤ get_or sums i 0
-      off_part = omega (arith, taken.whole, h.entry i (omega (arith, below, given_few g)))
-
       -- whom agent i envies, by what the rest of its chores cost
       envied : (j : ℕ) → j < n → ltb (get_or sums j 0) (get_or sums i 0 - off) ≡ envies t (as_marked s) (owner_of owners) i j
       unfolding envies

@@ -5,10 +5,10 @@ use mathlib.Core.Bool.{Bool}
 use mathlib.Core.Path.{◌≡◌, sym, ap, ◌∙◌}
 use borrow.Author.Tests.{lt-ltb, le-ltb}
 use Rattle.std.specs.Prelude.{Some, None, is_some}
-use Rattle.finite.specs.Search.{any_below, first_below, if_below}
+use Rattle.finite.specs.Search.{any_below, first_below, if_below, First}
 use Rattle.finite.proofs.Below.{by_less}
 use Rattle.finite.proofs.Found.{below_some}
-use Rattle.finite.proofs.Search.{any_first}
+use Rattle.finite.proofs.Search.{found, any_first}
 
 below_over : {n r : ℕ} → n ≤ r → if_below n r ≡ None
 unfolding if_below
@@ -22,6 +22,10 @@ module _ {n r : ℕ} where
   pub found_none : None ≡ if_below n r → n ≤ r
   found_none e =
       by_less r n (λ l. let q : None ≡ Some r = e ∙ below_some l in absurd (cc)) (λ l. l)
+
+-- so a number that was found is the first that passes
+pub found_first : {n i : ℕ} (t : ℕ → Bool) → Some i ≡ if_below n (first_below n t) → First n t i
+found_first {n} t e = let at = found_is e in rw at.0 (found n t at.1)
 
 -- some number passes where a first one is found
 pub any_found : (n : ℕ) (t : ℕ → Bool) → is_some (if_below n (first_below n t)) ≡ any_below n t

@@ -6,7 +6,7 @@ ghost use Rattle.finite.specs.Search.{first_below, if_below};
 ghost use Rattle.model.specs.Promises.{Dominating};
 ghost use Rattle.given.specs.Given.{Given};
 ghost use Rattle.waste.specs.Tests.{passable};
-ghost use Rattle.waste.specs.Walk.{Copied, Walkable, Wasting, Away, HandedOn, Burdened, Relieved};
+ghost use Rattle.waste.specs.Walk.{Walkable, Wasting, Away, HandedOn, Burdened, Relieved};
 
 use crate::connected;
 

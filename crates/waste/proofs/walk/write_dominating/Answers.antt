@@ -1,0 +1,50 @@
+use Prim.Native.Nat.{◌<◌}
+use mathlib.Core.Path.{◌≡◌}
+use native.Mathlib.Omega.{arith}
+use lib.ListN.{get_or}
+use Rattle.given.proofs.Given.{owner_below, given_agents}
+use Rattle.waste.proofs.Walking.{way_start, way_here, way_away, way_next, way_burden, way_end, shown_dominating}
+use Rattle.waste.proofs.walk.write_dominating.Goals as goal
+
+pub loop-h-init : goal.loop-h-init
+loop-h-init c =
+    let p = c.requires in
+    rw c.copy_from_slice.ensures.after (way_start p.walkable.given p.walkable.rings p.wasting.chore p.wasting.hard p.wasting p.walkable.long)
+
+pub bounds-distances-h : goal.bounds-distances-h
+bounds-distances-h c =
+    let p = c.requires in
+    omega (arith, way_here p.walkable.given p.walkable.rings p.wasting.chore p.wasting.hard c.loop-h.invariant, p.walkable.given.agents, p.walkable.given.valid.agents_fit)
+
+pub hand_on-h-requires-clause-away : goal.hand_on-h-requires-clause-away
+hand_on-h-requires-clause-away c =
+    let p = c.requires in
+    way_away p.walkable.given p.walkable.rings p.wasting.chore p.wasting.hard c.loop-h.invariant c.loop-h-test.true
+
+pub loop-h-preserved : goal.loop-h-preserved
+loop-h-preserved c =
+    let p = c.requires in
+    way_next p.walkable.given p.walkable.rings p.wasting.chore p.wasting.hard c.loop-h.invariant c.hand_on-h.ensures
+
+pub relieve-requires : goal.relieve-requires
+relieve-requires c =
+    let owner : c.owner-i.result < c.args.n = rw c.owner-i.ensures.is (owner_below c.requires.walkable.given _ c.requires.wasting.chore) in
+    let p = c.requires in
+    let inv = c.loop-h.invariant in
+    let g = p.walkable.given in
+    let arrived : get_or c.args.distances.now c.loop-h.h 0 ≡ 0 = omega (arith, c.loop-h-test.false) in
+    record {
+      given = given_agents g;
+      taker = omega (arith, owner, g.agents);
+      here = omega (arith, way_here g p.walkable.rings p.wasting.chore p.wasting.hard inv, g.agents);
+      burden = way_burden g p.walkable.rings p.wasting.chore p.wasting.hard inv arrived;
+      long = inv.long;
+    }
+
+pub returns : goal.returns
+returns c =
+    let p = c.requires in
+    let g = p.walkable.given in
+    let inv = c.loop-h.invariant in
+    let arrived : get_or c.args.distances.now c.loop-h.h 0 ≡ 0 = omega (arith, c.loop-h-test.false) in
+    shown_dominating g.chores (way_end g p.walkable.rings p.wasting.chore p.wasting.hard inv arrived c.owner-i.ensures.is c.relieve.ensures)
