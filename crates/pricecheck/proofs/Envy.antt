@@ -21,24 +21,20 @@ use Rattle.model.specs.Prices.{price_sum, dearest, price_up_to_one}
 use Rattle.model.specs.Refusals.{price_refusal}
 use Rattle.model.specs.Replies.{Reply, refused, off_price, price_envy, accepted}
 use Rattle.model.specs.Verdicts.{first_of_pair, second_of_pair, unless_refused, first_off_price, envies_by_price, price_verdict, price_check}
-use Rattle.model.proofs.Pairs.{pair_cong, second_cong}
+use Rattle.model.proofs.Pairs.{FirstPair, pair_cong, second_cong, pair_first, pair_second}
 use Rattle.welfare.proofs.Answered.{refused_told}
 use Rattle.totals.specs.Totals.{Summed}
 use Rattle.pricecheck.specs.Parts.{PricesGiven, above, outpays, envy_verdict}
 
--- what a search for the first of a pair found
-module _ {n i : ℕ} (t : ℕ → ℕ → Bool) (first : i ≡ first_of_pair n t) where
-  pub pair_below : (i ≡ n → ⊥) → i < n
-  unfolding first_of_pair
-  pair_below some = omega (arith, first_le n (λ i. any_below n (λ j. t i j)))
-
-  pub envy_none : i ≡ n → accepted ≡ envy_verdict n t
+-- what the first pair means for the answer
+module _ {n : ℕ} (t : ℕ → ℕ → Bool) where
+  pub envy_none : n ≤ first_of_pair n t → accepted ≡ envy_verdict n t
   unfolding envy_verdict
-  envy_none all = rw (← first, le-ltb i n (omega arith))
+  envy_none all = rw (le-ltb (first_of_pair n t) n all)
 
-  pub envy_found : {j : ℕ} → i < n → j ≡ first_below n (λ j. t i j) → price_envy (i + 1) (j + 1) ≡ envy_verdict n t
-  unfolding envy_verdict second_of_pair
-  envy_found below second = rw (← first, lt-ltb i n below, second)
+  pub envy_found : {i j : ℕ} → FirstPair n t i j → price_envy (i + 1) (j + 1) ≡ envy_verdict n t
+  unfolding envy_verdict
+  envy_found {i} f = rw (pair_first f, pair_second f, lt-ltb i n f.left)
 
 -- the answer goes by what the test says below n
 verdict_cong : (n : ℕ) {t u : ℕ → ℕ → Bool} → ((i j : ℕ) → i < n → j < n → t i j ≡ u i j) → envy_verdict n t ≡ envy_verdict n u

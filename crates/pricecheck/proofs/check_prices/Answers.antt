@@ -5,6 +5,8 @@ use Rattle.given.proofs.Given.{given_few}
 use Rattle.pricecheck.specs.Parts.{PricesGiven}
 use Rattle.pricecheck.proofs.Refusals.{prices_given, given_held}
 use Rattle.pricecheck.proofs.Envy.{check_refused, check_off, check_on}
+use Rattle.pricecheck.proofs.Searched.{ended_some, ended_none}
+use native.Mathlib.Omega.{arith}
 use Rattle.pricecheck.proofs.Checked.{checked}
 use Rattle.pricecheck.proofs.check_prices.Goals as goal
 use Rattle.pricecheck.proofs.check_prices.Goals.{Else-refused-ne0, After-chores-m}
@@ -27,13 +29,20 @@ agents-n-requires c = (prices_given _ _ _ (judged (goal.at.agents-n-requires c).
 pub chores-m-requires : goal.chores-m-requires
 chores-m-requires c = (prices_given _ _ _ (judged (goal.at.chores-m-requires c).Else-refused-ne0) refl refl).given.valid.header
 
-pub first_off_price-c-requires : goal.first_off_price-c-requires
-first_off_price-c-requires c = given (goal.at.first_off_price-c-requires c).After-chores-m
+pub first_off_price-requires : goal.first_off_price-requires
+first_off_price-requires c = given (goal.at.first_off_price-requires c).After-chores-m
 
-pub returns-then-c-m : goal.returns-then-c-m
-returns-then-c-m c =
-    let at = goal.at.returns-then-c-m c in
-    checked (check_off _ _ _ (judged at.Else-refused-ne0) (given at.After-chores-m) c.first_off_price-c.ensures c.if-c-m.true)
+pub overflow_add-result : goal.overflow_add-result
+overflow_add-result c = omega (arith, ended_some c.in-Some.ensures)
+
+pub overflow_cast-result : goal.overflow_cast-result
+overflow_cast-result c = omega (arith, ended_some c.in-Some.ensures)
+
+pub returns-in-Some : goal.returns-in-Some
+returns-in-Some c =
+    let at = goal.at.returns-in-Some c in
+    let off = ended_some c.in-Some.ensures in
+    checked (check_off _ _ _ (judged at.Else-refused-ne0) (given at.After-chores-m) off.1 off.0)
 
 pub envy_verdict-requires : goal.envy_verdict-requires
 envy_verdict-requires c =
@@ -43,4 +52,4 @@ envy_verdict-requires c =
 pub returns : goal.returns
 returns c =
     let at = goal.at.returns c in
-    checked (check_on _ _ _ (judged at.Else-refused-ne0) (given at.After-chores-m) c.first_off_price-c.ensures c.if-c-m.false c.envy_verdict.ensures)
+    checked (check_on _ _ _ (judged at.Else-refused-ne0) (given at.After-chores-m) refl (ended_none c.in_default.ensures) c.envy_verdict.ensures)

@@ -6,7 +6,5 @@ use Rattle.pricecheck.specs.Worths.{greatest_to}
 use Rattle.pricecheck.proofs.raise.Given as goal
 
 abbrev pub invariant-loop-i : goal.invariant-loop-i
-invariant-loop-i l = (l.i ≤ l.n) × Rewritten l.i (λ j. true) (greatest_to l.sheet l.prices (8 * l.k + l.count)) l.initial.greatest l.greatest
+invariant-loop-i l = Rewritten l.i (λ j. true) (greatest_to l.sheet l.prices (8 * l.k + l.count)) l.initial.greatest l.greatest
 
-abbrev pub decreases-loop-i : goal.decreases-loop-i
-decreases-loop-i l = l.n - l.i
