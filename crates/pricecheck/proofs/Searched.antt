@@ -1,7 +1,7 @@
 -- What the answer of a search tells, and a search for the first pair that passes, by its first number and then by its second.
 -- Assumes nothing.
-use Rattle.std.specs.Prelude.{ℕ, cond, ◌+◌, ◌≤◌, ◌<◌, Bool, true, false, ◌≡◌, Option, Some, None, MatchOption, IfSome, IsSomeAnd, IsTrue, option_map, refl}
-use Rattle.std.proofs.Common.{arith, rules, sym, ap, ◌∙◌, subst}
+use Rattle.std.specs.Prelude.{ℕ, cond, ◌+◌, ◌≤◌, ◌<◌, Bool, true, false, ◌≡◌, Option, Some, None, MatchOption, IsTrue, option_map, refl}
+use Rattle.std.proofs.Common.{arith, sym, ap, ◌∙◌}
 use Rattle.std.specs.Iterator.Runs.{Run, SomeRun, AllItemsGive, IsFirstToGive}
 use Rattle.std.specs.Fn.{Called}
 use Rattle.std.specs.declared.ops.Range.{Range}
@@ -11,9 +11,8 @@ use denote.Param.Members.{Mut}
 use borrow.Author.Tests.{lt-ltb, le-ltb}
 use Rattle.finite.specs.Search.{any_below, first_below, if_below}
 use Rattle.finite.proofs.Below.{by_less}
-use Rattle.finite.proofs.Search.{first_le, first_none_intro, first_unique, any_first}
-use Rattle.finite.proofs.Found.{below_some, below_none}
-use Rattle.model.proofs.Pairs.{FirstPair, pair_found}
+use Rattle.finite.proofs.Search.{first_none_intro, first_unique, any_first}
+use Rattle.finite.proofs.Found.{below_some}
 use Rattle.model.specs.Verdicts.{first_of_pair, second_of_pair}
 
 below_past : {n r : ℕ} → n ≤ r → if_below n r ≡ None
@@ -64,43 +63,29 @@ ended_some {n} {r} {i} e = by_less r n (λ l. let h = below_some l in let at : i
 pub ended_none : {n r : ℕ} → None ≡ if_below n r → n ≤ r
 ended_none {n} {r} e = by_less r n (λ l. let h = below_some l in cc) (λ l. l)
 
--- and with a function applied to the answer
-module _ {B : Type 0} {n r : ℕ} (f : ℕ → B) where
-  found_some : {y : B} → option_map f (if_below n r) ≡ Some y → (r < n) × (y ≡ f r)
-  found_some e = by_less r n (λ l. let h = ap (option_map f) (below_some l) in (l, cc)) (λ l. let h = ap (option_map f) (below_past l) in cc)
-
-  found_none : option_map f (if_below n r) ≡ None → n ≤ r
-  found_none e = by_less r n (λ l. let h = ap (option_map f) (below_some l) in cc) (λ l. l)
-
 -- a first number that passes with some second, and the first of these; nothing where it passes with none
 abbrev pub pair_at : ℕ → (ℕ → ℕ → Bool) → ℕ → Option (ℕ × ℕ)
 pair_at n t i = option_map {U = ℕ × ℕ} (λ j. (i, j)) (if_below n (first_below n (t i)))
 
--- the first pair, or nothing where none passes
-abbrev pub pair_of : ℕ → (ℕ → ℕ → Bool) → Option (ℕ × ℕ)
-pair_of n t = option_map {U = ℕ × ℕ} (λ i. (i, second_of_pair n t)) (if_below n (first_of_pair n t))
-
 module _ (n : ℕ) (t : ℕ → ℕ → Bool) where
   none_at : (i : ℕ) → pair_at n t i ≡ None → any_below n (t i) ≡ false
-  none_at i e = any_first n (t i) ∙ le-ltb _ n (found_none _ e)
+  none_at i e =
+      any_first n (t i)
+      ∙ by_less (first_below n (t i)) n (λ l. let h = ap (option_map {U = ℕ × ℕ} (λ j. (i, j))) (below_some l) in cc) (λ l. le-ltb _ n l)
 
-  some_at : (i : ℕ) {y : ℕ × ℕ} → pair_at n t i ≡ Some y → (any_below n (t i) ≡ true) × (y ≡ (i, first_below n (t i)))
-  some_at i e = let h = found_some _ e in (any_first n (t i) ∙ lt-ltb _ n h.0, h.1)
+  some_at : (i : ℕ) {y : ℕ × ℕ} → pair_at n t i ≡ Some y → (first_below n (t i) < n) × (y ≡ (i, first_below n (t i)))
+  some_at i e =
+      by_less (first_below n (t i)) n
+      (λ l. let h = ap (option_map {U = ℕ × ℕ} (λ j. (i, j))) (below_some l) in (l, cc))
+      (λ l. let h = ap (option_map {U = ℕ × ℕ} (λ j. (i, j))) (below_past l) in cc)
 
   -- a search for the second number of a pair, within a search for the first
-  pub pair_in : (r : Option (ℕ × ℕ)) → MatchOption r ((i : ℕ) → i < n → pair_at n t i ≡ None) (λ y. (i : ℕ) × (i < n) × (pair_at n t i ≡ Some y) × ((k : ℕ) → k < i → pair_at n t k ≡ None)) → r ≡ pair_of n t
+  pub pair_in : (r : Option (ℕ × ℕ)) → MatchOption r ((i : ℕ) → i < n → pair_at n t i ≡ None) (λ y. (i : ℕ) × (i < n) × (pair_at n t i ≡ Some y) × ((k : ℕ) → k < i → pair_at n t k ≡ None)) → MatchOption r (first_of_pair n t ≡ n) (λ p. (p.0 < n) × (p.1 < n) × (p.0 ≡ first_of_pair n t) × (p.1 ≡ second_of_pair n t))
   unfolding first_of_pair second_of_pair
-  pair_in None none = rw (first_none_intro n (λ i. any_below n (t i)) (λ i l. none_at i (none i l)), below_none n)
+  pair_in None none = first_none_intro n (λ i. any_below n (t i)) (λ i l. none_at i (none i l))
   pair_in (Some y) (i, l, here, before) =
       let at = some_at i here in
-      let first : first_below n (λ i. any_below n (t i)) ≡ i = first_unique (record { below = l; passes = at.0; before = λ k m. none_at k (before k m) }) in
-      ap Some at.1 ∙ rw (first, below_some l)
-
-  -- what the answer tells
-  pub pair_none : None ≡ pair_of n t → n ≤ first_of_pair n t
-  pair_none e = found_none _ (sym e)
-
-  pub pair_some : {i j : ℕ} → Some (i, j) ≡ pair_of n t → FirstPair n t i j
-  pair_some e =
-      let h = found_some _ (sym e) in
-      rw (ap (λ (p : ℕ × ℕ). p.0) h.1, ap (λ (p : ℕ × ℕ). p.1) h.1) (pair_found n t h.0)
+      let first : first_below n (λ i. any_below n (t i)) ≡ i = first_unique (record { below = l; passes = any_first n (t i) ∙ lt-ltb _ n at.0; before = λ k m. none_at k (before k m) }) in
+      let left : y.0 ≡ i = ap (λ (p : ℕ × ℕ). p.0) at.1 in
+      let right : y.1 ≡ first_below n (t i) = ap (λ (p : ℕ × ℕ). p.1) at.1 in
+      (rw left l, rw right at.0, left ∙ sym first, right ∙ rw first refl)

@@ -1,7 +1,7 @@
 // The price check: each chore is to be best for its owner, and nobody's price up to one above anybody's price sum.
 #![tactic(auto)]
 
-ghost use Rattle.std.specs.Prelude.{◌≡◌, ◌+◌, ◌*◌, ◌≤◌, max, cond, eqb, length, option_map};
+ghost use Rattle.std.specs.Prelude.{◌≡◌, ◌+◌, ◌*◌, ◌≤◌, max, cond, eqb, length, ◌<◌, IfSome, MatchOption};
 ghost use Rattle.finite.specs.Search.{if_below};
 ghost use Rattle.finite.specs.Sums.{max_to};
 ghost use Rattle.model.specs.Limits.{max_agents};
@@ -130,7 +130,8 @@ fn greatest_worths(
 // The first chore that is not best for its owner. A chore is best if no other is worth more to its owner.
 fn first_off_price(sheet: &[u8], owners: &[u8], prices: &[u32], n: usize, m: usize) -> Option<usize>
     requires { PricesGiven sheet.now owners.now prices.now n m }
-    ensures { result ≡ if_below m (first_off_price (as_marked sheet.now) (owner_of owners.now) (price_of prices.now)) }
+    ensures is { result ≡ if_below m (first_off_price (as_marked sheet.now) (owner_of owners.now) (price_of prices.now)) }
+    ensures within { IfSome result (λ c. c < m) }
 {
     let a = sheet::easy_weight(sheet);
     let b = sheet::difficult_weight(sheet);
@@ -143,9 +144,13 @@ fn first_off_price(sheet: &[u8], owners: &[u8], prices: &[u32], n: usize, m: usi
 
 // The first pair by the first agent and then by the second, where the first's price up to one is above the second's sum. An agent with no chore
 // has a price up to one of 0, which is above no sum: it envies nobody.
-fn first_envy(n: usize, ups: &[u32; model::MAX_AGENTS], sums: &[u32; model::MAX_AGENTS]) -> Option<(usize, usize)>
+fn first_envy(
+    n: usize,
+    ups: &[u32; model::MAX_AGENTS],
+    sums: &[u32; model::MAX_AGENTS],
+) -> Option<(usize, usize)>
     requires { n ≤ max_agents }
-    ensures { result ≡ option_map (λ i. (i, second_of_pair n (above ups.now sums.now))) (if_below n (first_of_pair n (above ups.now sums.now))) }
+    ensures { let t = above ups.now sums.now in MatchOption result (first_of_pair n t ≡ n) (λ p. (p.0 < n) × (p.1 < n) × (p.0 ≡ first_of_pair n t) × (p.1 ≡ second_of_pair n t)) }
 {
     (0..n).find_map(|i| totals::first_below(n, sums, ups[i]).map(|j| (i, j)))
 }

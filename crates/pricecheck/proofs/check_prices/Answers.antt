@@ -6,7 +6,6 @@ use Rattle.pricecheck.specs.Parts.{PricesGiven}
 use Rattle.pricecheck.proofs.Refusals.{prices_given, given_held}
 use Rattle.pricecheck.proofs.Envy.{check_refused, check_off, check_on}
 use Rattle.pricecheck.proofs.Searched.{ended_some, ended_none}
-use native.Mathlib.Omega.{arith}
 use Rattle.pricecheck.proofs.Checked.{checked}
 use Rattle.pricecheck.proofs.check_prices.Goals as goal
 use Rattle.pricecheck.proofs.check_prices.Goals.{Else-refused-ne0, After-chores-m}
@@ -32,16 +31,10 @@ chores-m-requires c = (prices_given _ _ _ (judged (goal.at.chores-m-requires c).
 pub first_off_price-requires : goal.first_off_price-requires
 first_off_price-requires c = given (goal.at.first_off_price-requires c).After-chores-m
 
-pub overflow_add-result : goal.overflow_add-result
-overflow_add-result c = omega (arith, ended_some c.in-Some.ensures)
-
-pub overflow_cast-result : goal.overflow_cast-result
-overflow_cast-result c = omega (arith, ended_some c.in-Some.ensures)
-
 pub returns-in-Some : goal.returns-in-Some
 returns-in-Some c =
     let at = goal.at.returns-in-Some c in
-    let off = ended_some c.in-Some.ensures in
+    let off = ended_some c.in-Some.ensures.is in
     checked (check_off _ _ _ (judged at.Else-refused-ne0) (given at.After-chores-m) off.1 off.0)
 
 pub envy_verdict-requires : goal.envy_verdict-requires
@@ -52,4 +45,4 @@ envy_verdict-requires c =
 pub returns : goal.returns
 returns c =
     let at = goal.at.returns c in
-    checked (check_on _ _ _ (judged at.Else-refused-ne0) (given at.After-chores-m) refl (ended_none c.in_default.ensures) c.envy_verdict.ensures)
+    checked (check_on _ _ _ (judged at.Else-refused-ne0) (given at.After-chores-m) refl (ended_none c.in_default.ensures.is) c.envy_verdict.ensures)

@@ -3,7 +3,7 @@ use Rattle.std.proofs.Common.{rules, tests, ℕ, ◌<◌, ◌≡◌, ◌∙◌, 
 use Rattle.std.proofs.lemmas.Iterator.{serves_from_Range}
 use Rattle.finite.specs.Search.{if_below}
 use Rattle.finite.proofs.Found.{found_in}
-use Rattle.given.proofs.Given.{given_few, given_owned}
+use Rattle.given.proofs.Given.{given_owned}
 use Rattle.model.specs.Instance.{owner_of}
 use Rattle.model.specs.Sheet.{is_difficult}
 use Rattle.pricecheck.specs.Worths.{Rated}
@@ -24,8 +24,8 @@ find-requires-clause-callable c =
     let weighs = λ (x : ℕ) (l : x < c.args.m) (i : ℕ) (o : i ≡ owner_of owners x) (mark : ℕ) (t : mark ≡ cond (is_difficult c.args.sheet.now i x) 1 0). off_weighable c.requires r x l o t in
     serves_from_Range (λ x q r. search (rules, tests)) (λ x lo hi. search (rules, owned, marks, weighs))
 
-pub returns : goal.returns
-returns c =
+pub returns-clause-is : goal.returns-clause-is
+returns-clause-is c =
     let less = worth_less c.args.sheet.now c.args.owners.now c.args.prices.now c.easy_weight-a.result c.difficult_weight-b.result c.greatest_worths-greatest.result in
     found_in c.args.m less _ _ c.find.result c.find.ensures.ran (λ x b q k. search (rules, tests))
-    ∙ ap (if_below c.args.m) (off_first c.requires (rated (goal.at.returns c).After-greatest_worths-greatest) c.greatest_worths-greatest.ensures)
+    ∙ ap (if_below c.args.m) (off_first c.requires (rated (goal.at.returns-clause-is c).After-greatest_worths-greatest) c.greatest_worths-greatest.ensures)
