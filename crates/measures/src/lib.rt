@@ -28,13 +28,14 @@ fn deal_level(
     ensures { LevelDealt n weight count costs.old costs.new result }
 {
     let mut left = count;
-    let mut k = 0;
-    while k < n && left > 0 {
-        if costs[k] == least {
-            costs[k] += weight;
+    for cost in &mut costs[..n] {
+        if left == 0 {
+            break;
+        }
+        if *cost == least {
+            *cost += weight;
             left -= 1;
         }
-        k += 1;
     }
     left
 }
@@ -56,15 +57,7 @@ fn costliest(n: usize, costs: &[u32; model::MAX_AGENTS]) -> u32
     requires { n ≤ max_agents }
     ensures { result ≡ max_to n (λ k. get_or costs.now k 0) }
 {
-    let mut most = 0;
-    let mut k = 0;
-    while k < n {
-        if costs[k] > most {
-            most = costs[k];
-        }
-        k += 1;
-    }
-    most
+    costs[..n].iter().copied().fold(0, u32::max)
 }
 
 // Agent i's maximin share.
@@ -76,7 +69,7 @@ fn share(sheet: &[u8], n: usize, m: usize, i: usize) -> u32
     let b = sheet::difficult_weight(sheet);
     let difficult = sheet::difficult_marks(sheet, m, i);
     let easy = m - difficult;
-    let mut costs = totals::zeros();
+    let mut costs = [0; model::MAX_AGENTS];
     deal(n, b, difficult, &mut costs);
     deal(n, a, easy, &mut costs);
     costliest(n, &costs)

@@ -6,6 +6,7 @@ use Rattle.given.proofs.Given.{given_few}
 use Rattle.pricecheck.specs.Parts.{PricesGiven}
 use Rattle.pricecheck.proofs.Refusals.{prices_given, given_held}
 use Rattle.pricecheck.proofs.Envy.{check_off, check_on}
+use Rattle.pricecheck.proofs.Searched.{ended_some, ended_none}
 use Rattle.pricecheck.proofs.Checked.{checked, not_checked}
 use Rattle.pricecheck.proofs.check_prices.Goals as goal
 use Rattle.pricecheck.proofs.check_prices.Goals.{In_ok-admit, After-chores-m}
@@ -27,13 +28,14 @@ agents-n-requires c = (prices_given _ _ _ (judged (goal.at.agents-n-requires c).
 pub chores-m-requires : goal.chores-m-requires
 chores-m-requires c = (prices_given _ _ _ (judged (goal.at.chores-m-requires c).In_ok-admit) refl refl).given.valid.header
 
-pub first_off_price-c-requires : goal.first_off_price-c-requires
-first_off_price-c-requires c = given (goal.at.first_off_price-c-requires c).After-chores-m
+pub first_off_price-requires : goal.first_off_price-requires
+first_off_price-requires c = given (goal.at.first_off_price-requires c).After-chores-m
 
-pub returns-then-c-m : goal.returns-then-c-m
-returns-then-c-m c =
-    let at = goal.at.returns-then-c-m c in
-    checked (check_off _ _ _ (judged at.In_ok-admit) (given at.After-chores-m) c.first_off_price-c.ensures c.if-c-m.true)
+pub returns-in-Some : goal.returns-in-Some
+returns-in-Some c =
+    let at = goal.at.returns-in-Some c in
+    let off = ended_some c.in-Some.ensures.is in
+    checked (check_off _ _ _ (judged at.In_ok-admit) (given at.After-chores-m) off.1 off.0)
 
 pub envy_verdict-requires : goal.envy_verdict-requires
 envy_verdict-requires c =
@@ -43,4 +45,4 @@ envy_verdict-requires c =
 pub returns : goal.returns
 returns c =
     let at = goal.at.returns c in
-    checked (check_on _ _ _ (judged at.In_ok-admit) (given at.After-chores-m) c.first_off_price-c.ensures c.if-c-m.false c.envy_verdict.ensures)
+    checked (check_on _ _ _ (judged at.In_ok-admit) (given at.After-chores-m) refl (ended_none c.in_default.ensures.is) c.envy_verdict.ensures)
