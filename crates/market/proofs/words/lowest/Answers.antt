@@ -19,5 +19,5 @@ returns c =
     let n = c.args.n in
     let t = count_trailing_zeros 32 w in
     c.then_some.ensures ∙ by_less t n
-        (λ l. ap (λ b. then_some b t) (lt-ltb t n l) ∙ sym (ap (if_below n) (first_set 32 w n (omega arith) (omega arith) l) ∙ below_some l))
-        (λ l. ap (λ b. then_some b t) (le-ltb t n l) ∙ sym (ap (if_below n) (none_set 32 w n l) ∙ below_none n))
+    (λ l. ap (λ b. then_some b t) (lt-ltb t n l) ∙ sym (ap (if_below n) (first_set 32 w n (omega arith) (omega arith) l) ∙ below_some l))
+    (λ l. ap (λ b. then_some b t) (le-ltb t n l) ∙ sym (ap (if_below n) (none_set 32 w n l) ∙ below_none n))
