@@ -1,7 +1,7 @@
 -- How a call that is turned down leaves: a refusal's number is not 0, and `?` hands on the refusal that it met.
-use Rattle.std.specs.Prelude.{ℕ, ◌<◌, ◌≡◌, Result}
-use Rattle.std.proofs.Common.{arith, ◌∙◌, ap}
-use Rattle.std.specs.Result.{IsErrAnd}
+use Rattle.std.specs.Prelude.{ℕ, ◌<◌, ◌≡◌, true, refl, Result, Ok, Err}
+use Rattle.std.proofs.Common.{arith, true≢false, ◌∙◌, ap}
+use Rattle.std.specs.Result.{IsErrAnd, is_ok}
 use Rattle.std.proofs.lemmas.Result.{err_from_is_err_and}
 use Rattle.model.specs.declared.Refusal.{Refusal}
 use Rattle.model.specs.RefusalNumbers.{refusal_number, number_of}
@@ -27,3 +27,20 @@ pub at_exit : {A : Type 0} {a : ℕ} (r : Result A Refusal) (met : Refusal) → 
 at_exit r met left e =
     let p = err_from_is_err_and r left in
     (ap number_of p.1 ∙ ap refusal_number p.2 ∙ e, rw e at (numbered met))
+
+-- the same, with the refusal itself
+pub record Left {A : Type 0} (r : Result A Refusal) (a : ℕ) : Type 0 where
+  pub refusal : Refusal
+  pub is : r ≡ Err refusal
+  pub number : refusal_number refusal ≡ a
+  pub positive : 0 < a
+
+pub left : {A : Type 0} {a : ℕ} (r : Result A Refusal) (met : Refusal) → IsErrAnd r (λ e. e ≡ met) → refusal_number met ≡ a → Left r a
+left r met h e =
+    let p = err_from_is_err_and r h in
+    record { refusal = p.0; is = p.1; number = ap refusal_number p.2 ∙ e; positive = (at_exit r met h e).1 }
+
+-- what is not turned down has no number
+pub taken : {A : Type 0} (r : Result A Refusal) → true ≡ is_ok r → number_of r ≡ 0
+taken (Ok x) e = refl
+taken (Err refusal) e = absurd (true≢false e)
