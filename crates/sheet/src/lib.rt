@@ -11,6 +11,8 @@ ghost use Rattle.model.specs.RefusalNumbers.{number_of};
 ghost use Rattle.model.specs.Refusals.{◌or_else◌, ◌when◌, weights_fault, set_after, marks_fault, header_refusal, sheet_refusal, lent_refusal};
 ghost use Rattle.sheet.specs.Readers.{Read, Whole, RowInSheet, InSheet};
 
+pub mod valid;
+
 use model::Refusal;
 
 pub fn byte_at(bytes: &[u8], i: usize) -> u32
