@@ -6,7 +6,7 @@ use Rattle.strands.proofs.Refusals.{show_joinable, show_person}
 use Rattle.strands.proofs.Showing.{held_valid, held-row}
 use Rattle.cstrands.proofs.Telling.{not_told, marks_told}
 use Rattle.cstrands.proofs.show_marks.Goals as goal
-use Rattle.cstrands.proofs.show_marks.Goals.{Else-refusal-ne0}
+use Rattle.cstrands.proofs.show_marks.Goals.{After-admit_show}
 
 -- nothing is refused
 right : (c : Else-refusal-ne0) → show_refusal c.args.first.now c.args.second.now c.args.person c.args.chore ≡ 0
