@@ -31,13 +31,13 @@ pub below_none : (n : ℕ) → if_below n n ≡ None
 below_none n = below_past (omega arith)
 
 -- and what the answer says of r
-pub below_is : {n r i : ℕ} → Some i ≡ if_below n r → (i ≡ r) × (i < n)
-below_is {n} {r} {i} e =
-    by_less r n (λ l. let q = e ∙ below_some l in let is : i ≡ r = cc in (is, rw is l))
+pub found_is : {n r i : ℕ} → Some i ≡ if_below n r → (i ≡ r) × (r < n)
+found_is {n} {r} {i} e =
+    by_less r n (λ l. let q = e ∙ below_some l in (cc, l))
     (λ l. let q = e ∙ below_past l in cc)
 
-pub below_not : {n r : ℕ} → None ≡ if_below n r → n ≤ r
-below_not {n} {r} e = by_less r n (λ l. let q = e ∙ below_some l in cc) (λ l. l)
+pub found_none : {n r : ℕ} → None ≡ if_below n r → n ≤ r
+found_none {n} {r} e = by_less r n (λ l. let q = e ∙ below_some l in cc) (λ l. l)
 
 -- `(0..n).find(|&i| ..)`, whose closure computes the test t
 pub found_in : {F : Type 0} {g : Mut F (Bor ℕ × Unit {0}) Bool} (n : ℕ) (t : ℕ → Bool) (u : Range ℕ) (f : F) (r : Option ℕ)
