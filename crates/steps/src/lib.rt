@@ -69,22 +69,19 @@ fn hand_over(
     requires { Handing owners.old prices.now entitled.now likes.now first.old sets.old due.giver due.receiver due.sought }
     ensures { HandedOver (has_trait prices.now entitled.now likes.now view.free view.grouped view.mid view.top) due.giver due.receiver due.sought owners.old first.old sets.old result owners.new first.new sets.new }
 {
-    let chore = first_of(first, due.giver, due.sought);
+    let Move {
+        giver,
+        receiver,
+        sought,
+    } = due;
+    let chore = first_of(first, giver, sought);
     hand_on(
-        owners,
-        prices,
-        entitled,
-        likes,
-        view,
-        first,
-        sets,
-        chore,
-        due.receiver,
+        owners, prices, entitled, likes, view, first, sets, chore, receiver,
     );
     Turn::Moved {
         chore,
-        giver: due.giver,
-        receiver: due.receiver,
+        giver,
+        receiver,
     }
 }
 
@@ -126,10 +123,9 @@ pub fn step(
     ensures { Turned sheet.now owners.old prices.old groups.old entitled.old likes.now at.cuts at.stage
         result owners.new prices.new groups.new entitled.new first.new sets.new }
 {
-    match seek(
-        sheet, owners, prices, groups, sets, at.view, scratch, at.stage,
-    ) {
-        Due::Hand(due) => hand_over(owners, prices, entitled, likes, at.view, first, sets, due),
+    let view = at.view;
+    match seek(sheet, owners, prices, groups, sets, view, scratch, at.stage) {
+        Due::Hand(due) => hand_over(owners, prices, entitled, likes, view, first, sets, due),
         Due::Pass => Turn::Passed,
         Due::Cut => {
             cut(sheet, owners, prices, groups, entitled, scratch, at.cuts);
