@@ -7,6 +7,7 @@ ghost use Rattle.finite.specs.Sums.{max_to};
 ghost use Rattle.model.specs.Limits.{max_agents};
 ghost use Rattle.model.specs.Instance.{owner_of, price_of};
 ghost use Rattle.model.specs.Sheet.{agents_of, as_marked};
+ghost use Rattle.model.specs.RefusalNumbers.{number_of};
 ghost use Rattle.model.specs.Refusals.{prices_refusal, price_refusal};
 ghost use Rattle.model.specs.Verdicts.{first_of_pair, second_of_pair, first_off_price};
 ghost use Rattle.model.specs.Replies.{price_reply};
@@ -15,36 +16,27 @@ ghost use Rattle.totals.specs.Totals.{Held};
 ghost use Rattle.pricecheck.specs.Parts.{PricesGiven, above, outpays, envy_verdict};
 ghost use Rattle.pricecheck.specs.Worths.{Rated, Weighable, UpToEight, worth_in, Column, Greatest};
 
-use model::PriceVerdict;
+use model::{PriceVerdict, Refusal};
 
-// The number that a list of prices is turned down with, 0 where it is not.
-fn prices_refusal(prices: &[u32], m: usize) -> u8
-    ensures { result ≡ prices_refusal m prices.now }
+// What a list of prices is turned down for.
+fn admit_prices(prices: &[u32], m: usize) -> Result<(), Refusal>
+    ensures { number_of result ≡ prices_refusal m prices.now }
 {
     if prices.len() != m {
-        return 10;
+        return Err(Refusal::Prices);
     }
-    let mut c = 0;
-    while c < m {
-        let price = prices[c];
-        if price == 0 || price > model::MAX_PRICE {
-            return 10;
-        }
-        c += 1;
+    if !prices.iter().all(|&price| !sheet::out_of_range(price as usize, model::MAX_PRICE as usize)) {
+        return Err(Refusal::Prices);
     }
-    0
+    Ok(())
 }
 
-// The number that the price check is turned down with, 0 where it is not.
-fn price_refusal(sheet: &[u8], owners: &[u8], prices: &[u32]) -> u8
-    ensures { result ≡ price_refusal sheet.now owners.now prices.now }
+// What the price check is turned down for.
+fn admit(sheet: &[u8], owners: &[u8], prices: &[u32]) -> Result<(), Refusal>
+    ensures { number_of result ≡ price_refusal sheet.now owners.now prices.now }
 {
-    let refusal = given::given_refusal(sheet, owners);
-    if refusal != 0 {
-        return refusal;
-    }
-    let m = sheet::chores(sheet);
-    prices_refusal(prices, m)
+    given::admit_given(sheet, owners)?;
+    admit_prices(prices, sheet::chores(sheet))
 }
 
 // What a chore is worth to an agent: its price times the weight that it does not cost. A cost times the other weight is a times b, whichever
@@ -159,7 +151,7 @@ fn first_envy(
 fn envy_verdict(owners: &[u8], prices: &[u32], n: usize) -> PriceVerdict
     requires held { Held owners.now prices.now }
     requires n_le_max_agents { n ≤ max_agents }
-    ensures { price_reply result ≡ envy_verdict n (outpays (length owners.now) (owner_of owners.now) (price_of prices.now)) }
+    ensures { price_reply (Ok result) ≡ envy_verdict n (outpays (length owners.now) (owner_of owners.now) (price_of prices.now)) }
 {
     let mut sums = [0; model::MAX_AGENTS];
     let mut ups = [0; model::MAX_AGENTS];
@@ -171,17 +163,18 @@ fn envy_verdict(owners: &[u8], prices: &[u32], n: usize) -> PriceVerdict
 }
 
 // Whether a list of owners, with prices, is accepted.
-pub fn check_prices(sheet: &[u8], owners: &[u8], prices: &[u32]) -> PriceVerdict
+pub fn check_prices(
+    sheet: &[u8],
+    owners: &[u8],
+    prices: &[u32],
+) -> Result<PriceVerdict, Refusal>
     ensures { PricesChecked sheet.now owners.now prices.now result }
 {
-    let refused = price_refusal(sheet, owners, prices);
-    if refused != 0 {
-        return PriceVerdict::Refused(refused);
-    }
+    admit(sheet, owners, prices)?;
     let n = sheet::agents(sheet);
     let m = sheet::chores(sheet);
     if let Some(c) = first_off_price(sheet, owners, prices, n, m) {
-        return PriceVerdict::OffPrice((c + 1) as u16);
+        return Ok(PriceVerdict::OffPrice((c + 1) as u16));
     }
-    envy_verdict(owners, prices, n)
+    Ok(envy_verdict(owners, prices, n))
 }
