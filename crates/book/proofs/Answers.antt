@@ -4,15 +4,13 @@ use Prim.Native.Nat.{ℕ}
 use mathlib.Core.List.{List}
 use mathlib.Core.Path.{◌≡◌, sym, ap, ◌∙◌}
 use lib.ListN.{length}
-use native.Mathlib.Omega.{arith}
 use Rattle.finite.proofs.Below.{by_same}
-use Rattle.std.specs.Prelude.{Result, Ok, Err}
+use Rattle.std.specs.Prelude.{Result, Ok}
 use Rattle.model.specs.declared.Refusal.{Refusal}
 use Rattle.model.specs.declared.BookResult.{BookResult}
-use Rattle.model.specs.RefusalNumbers.{refusal_number, number_of}
+use Rattle.model.specs.RefusalNumbers.{number_of}
 use Rattle.model.specs.Refusals.{book_refusal}
-use Rattle.model.specs.Promises.{BookSharedOut, BookNotShared, BookAllocated}
-use Rattle.model.proofs.Refusing.{numbered}
+use Rattle.model.specs.Promises.{BookSharedOut, BookAllocated}
 use Rattle.sheet.proofs.OrElse.{or_else_zero}
 use Rattle.contents.specs.Fits.{Fits}
 use Rattle.contents.proofs.Refusal.{fits}
@@ -39,8 +37,3 @@ module _ {book owners prices scratch owners' prices' scratch' : List ℕ} where
     pub refusal_fits : Fits book
     unfolding book_refusal
     refusal_fits = fits book (or_else_zero _ _ none).0
-
-  pub refused : {refusal : Refusal} → BookAllocated book owners prices scratch owners' prices' scratch' (Err refusal) → BookNotShared (refusal_number refusal) owners prices scratch owners' prices' scratch' (Err refusal)
-  refused {refusal} A =
-      let some = numbered refusal in
-      rw (← refusal_is A) at (A.turned_down (λ z. let e = refusal_is A ∙ z in omega (arith, e, some)))
