@@ -158,7 +158,7 @@ pub fn list_within(
     let a = sheet::easy_weight(sheet);
     let q = sheet::difficult_weight(sheet) / a;
     let mut places = [0; model::MAX_AGENTS];
-    totals::clear(owners);
+    owners.fill(0);
     serve_all(sheet, n, m, a, q, measures, &mut places, owners);
     place_rest(sheet, n, m, &mut places, owners);
 }

@@ -9,7 +9,7 @@ serve_all-requires c =
     record {
       quoted = quoted c.requires.measured_sheet c.easy_weight-a.ensures.is c.difficult_weight.ensures.is;
       places_value = refl;
-      owners_value = c.clear.ensures ∙ ap (λ k. replicate k 0) c.requires.owners_len;
+      owners_value = c.fill.ensures.after (λ y e. e) ∙ ap (λ k. replicate k 0) c.requires.owners_len;
     }
 
 pub returns : goal.returns
