@@ -37,10 +37,13 @@ pub fn sum_up(
     requires { Summing n owners.now prices.now sums.old ups.old }
     ensures { Summed n owners.now prices.now sums.new ups.new }
 {
-    for (&owner, &price) in owners.iter().zip(prices) {
-        let o = owner as usize - 1;
+    for c in 0..owners.len() {
+        let o = owners[c] as usize - 1;
+        let price = prices[c];
         sums[o] += price;
-        ups[o] = ups[o].max(price);
+        if ups[o] < price {
+            ups[o] = price;
+        }
     }
     take_off(n, sums, ups);
 }
