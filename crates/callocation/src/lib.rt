@@ -79,6 +79,25 @@ pub fn allocate(
     allocate_with(sheet, owners, prices, scratch, &mut lent, moves, cuts)
 }
 
+// With a record.
+fn allocate_recorded_with(
+    sheet: &[u8],
+    owners: &mut [u8],
+    prices: &mut [u8],
+    scratch: &mut [u8],
+    record: &mut [u8],
+    lent: &mut [u32],
+    moves: &mut u64,
+    cuts: &mut u8,
+) -> u8
+    requires { length lent.old ≡ max_chores }
+    ensures { RecordedInC sheet.now owners.old prices.old scratch.old «record».old owners.new prices.new scratch.new «record».new moves.old cuts.old moves.new cuts.new result }
+{
+    let entries = lent_for(prices.len());
+    let answer = recorded::allocate_recorded(sheet, owners, &mut lent[..entries], scratch, record);
+    told_out(sheet, answer, lent, prices, moves, cuts)
+}
+
 // As `allocate`, and the moves stand at the start of the record.
 pub fn allocate_recorded(
     sheet: &[u8],
@@ -92,7 +111,7 @@ pub fn allocate_recorded(
     ensures { RecordedInC sheet.now owners.old prices.old scratch.old «record».old owners.new prices.new scratch.new «record».new moves.old cuts.old moves.new cuts.new result }
 {
     let mut lent = [0; model::MAX_CHORES];
-    let entries = lent_for(prices.len());
-    let answer = recorded::allocate_recorded(sheet, owners, &mut lent[..entries], scratch, record);
-    told_out(sheet, answer, &lent, prices, moves, cuts)
+    allocate_recorded_with(
+        sheet, owners, prices, scratch, record, &mut lent, moves, cuts,
+    )
 }

@@ -3,7 +3,7 @@ use native.Mathlib.Omega.{arith}
 use borrow.Author.Rules.{rules}
 use Rattle.callocation.proofs.Lending.{first_lent}
 use Rattle.callocation.proofs.Recording.{tellable_too, recorded_in_c}
-use Rattle.callocation.proofs.allocate_recorded.Goals as goal
+use Rattle.callocation.proofs.allocate_recorded_with.Goals as goal
 
 pub told_out-requires : goal.told_out-requires
 told_out-requires c =
