@@ -7,7 +7,7 @@ ghost use Rattle.pages.specs.Printer.{text_of};
 ghost use Rattle.pages.specs.Answered.{Left, Answered};
 ghost use Rattle.why.specs.Told.{printer, text_most, text_room, Wide, PutRun, Openable, Opening, Noted, NotedIf};
 
-use opening::{no_likes, open};
+use opening::open;
 use text::{lines, moves};
 
 // The opening list. Its prices, and who likes what, are left here.
@@ -18,7 +18,7 @@ fn opening_owners(sheet: &[u8], owners: &mut [u8])
     let n = sheet::agents(sheet);
     let m = sheet::chores(sheet);
     let mut prices = totals::no_prices();
-    let mut likes = no_likes();
+    let mut likes = [0; model::MAX_CHORES];
     open(sheet, n, m, owners, &mut prices[0..m], &mut likes[0..m]);
 }
 

@@ -1,10 +1,11 @@
+use Rattle.std.proofs.Common.{refl}
 use Rattle.model.specs.Sheet.{as_read}
 use Rattle.model.specs.Algorithm.{opening}
 use Rattle.why.proofs.Telling.{opening_into}
 use Rattle.why.proofs.told.opening_owners.Goals as goal
 
 pub open-requires : goal.open-requires
-open-requires c = opening_into _ _ c.requires c.agents-n.ensures.is c.chores-m.ensures.is c.no_prices-prices.ensures c.no_likes-likes.ensures
+open-requires c = opening_into _ _ c.requires c.agents-n.ensures.is c.chores-m.ensures.is c.no_prices-prices.ensures refl
 
 pub returns : goal.returns
 unfolding opening as_read
