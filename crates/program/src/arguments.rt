@@ -18,16 +18,11 @@ enum Asked {
 fn asked_by(word: &[u8]) -> Asked
     ensures { Asks word.now result }
 {
-    if word == b"--help".as_slice() {
-        return Asked::Help;
+    match word {
+        b"--help" | b"-h" => Asked::Help,
+        b"--version" => Asked::Version,
+        _ => Asked::Unknown,
     }
-    if word == b"-h".as_slice() {
-        return Asked::Help;
-    }
-    if word == b"--version".as_slice() {
-        return Asked::Version;
-    }
-    Asked::Unknown
 }
 
 // Argument 0 is the program's own name.
@@ -42,12 +37,8 @@ fn what_is_asked(rt: &impl Env) -> Asked {
     match rt.arg(1, &mut word) {
         Err(FillError::NotPresent) => Asked::Run,
         Err(FillError::TooLong) => Asked::Unknown,
-        Ok(n) => {
-            if has_second(rt) {
-                return Asked::Unknown;
-            }
-            asked_by(&word[..n])
-        }
+        Ok(_) if has_second(rt) => Asked::Unknown,
+        Ok(n) => asked_by(&word[..n]),
     }
 }
 
@@ -60,17 +51,12 @@ pub fn to_run<W: Write, E: Write>(
     version: &[u8],
     failure: &[u8],
 ) -> bool {
-    match what_is_asked(rt) {
+    let printed = match what_is_asked(rt) {
         Asked::Run => return true,
-        Asked::Help => {
-            output::put(out, errors, usage, failure);
-        }
-        Asked::Version => {
-            output::put(out, errors, version, failure);
-        }
-        Asked::Unknown => {
-            output::put_error(errors, usage, failure);
-        }
-    }
+        Asked::Help => output::put(out, usage),
+        Asked::Version => output::put(out, version),
+        Asked::Unknown => output::put(errors, usage),
+    };
+    output::report(printed, errors, failure);
     false
 }

@@ -2,5 +2,6 @@
 #![tactic(auto)]
 
 pub mod arguments;
+pub mod buffered;
 pub mod input;
 pub mod output;
