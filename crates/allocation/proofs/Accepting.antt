@@ -7,12 +7,15 @@ use native.Mathlib.Omega.{arith}
 use lib.ListN.{length, drop, replicate}
 use lib.Seq.{take_at, drop_at}
 use Rattle.finite.proofs.Below.{by_same}
+use Rattle.std.specs.Prelude.{Result, Ok}
+use Rattle.model.specs.declared.Refusal.{Refusal}
 use Rattle.model.specs.declared.ShareOut.{ShareOut}
 use Rattle.model.specs.Limits.{max_chores, scratch_size}
 use Rattle.model.specs.Sheet.{chores_of, as_read}
 use Rattle.model.specs.Refusals.{◌or_else◌, sheet_refusal, lent_refusal, allocate_refusal}
 use Rattle.model.specs.Replies.{refused}
 use Rattle.model.specs.Promises.{Allocated}
+use Rattle.model.proofs.Refusing.{Left}
 use Rattle.sheet.specs.Valid.{Valid}
 use Rattle.sheet.proofs.OrElse.{or_else_next, or_else_first, or_else_none, or_else_zero}
 use Rattle.sheet.proofs.Refusal.{valid, lent_ok, lent_room}
@@ -54,15 +57,15 @@ sheet_decides s owners prices scratch o p c =
     (λ h. or_else_first _ h)
 
 module _ {s owners prices scratch : List ℕ} where
-  pub refused_kept : {k : ℕ} → k ≡ allocate_refusal s (length owners) (length prices) (length scratch) → (k ≡ 0 → ⊥) → Allocated s owners prices scratch owners prices scratch (ShareOut.Refused k)
-  refused_kept e h =
+  pub refused_kept : {r : Result ShareOut Refusal} → Left r (allocate_refusal s (length owners) (length prices) (length scratch)) → Allocated s owners prices scratch owners prices scratch r
+  refused_kept L =
       record {
-        not_refused = λ z. absurd (h (e ∙ z));
-        turned_down = λ n. record { answer = ap refused e; owners_kept = refl; prices_kept = refl; scratch_kept = refl };
+        not_refused = λ z. let p = L.positive in absurd (omega (arith, z, p));
+        turned_down = λ n. record { answer = rw L.is (ap refused L.number); owners_kept = refl; prices_kept = refl; scratch_kept = refl };
       }
 
   -- the first m entries are those of the state in which the run ends, the rest are kept
-  pub shared_out : {x p lent bytes scratch' : List ℕ} {moves cuts k : ℕ} → allocate_refusal s (length owners) (length prices) (length scratch) ≡ 0 → Shared s x p lent bytes moves cuts → k ≡ chores_of s → scratch' ≡ replicate (length scratch) 0 → SharedWith s owners prices scratch lent (x ++ drop (k - 0) owners) (p ++ drop (k - 0) prices) scratch' bytes (ShareOut.Shared moves cuts)
+  pub shared_out : {x p lent bytes scratch' : List ℕ} {k : ℕ} {out : ShareOut} → allocate_refusal s (length owners) (length prices) (length scratch) ≡ 0 → Shared s x p lent bytes out.moves out.cuts → k ≡ chores_of s → scratch' ≡ replicate (length scratch) 0 → SharedWith s owners prices scratch lent (x ++ drop (k - 0) owners) (p ++ drop (k - 0) prices) scratch' bytes out
   unfolding as_read
   shared_out {x} {p} {k = k} e R q zeros =
       let fine = is_fine s (length owners) (length prices) (length scratch) e in

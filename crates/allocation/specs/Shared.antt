@@ -1,5 +1,5 @@
 -- The share-out of a sheet that breaks no rule, on lists of exactly one entry for each chore.
-use Rattle.std.specs.Prelude.{ℕ, ◌≤◌, List, ◌≡◌, length, replicate}
+use Rattle.std.specs.Prelude.{ℕ, ◌≤◌, List, ◌≡◌, length, replicate, Ok}
 use Rattle.model.specs.declared.ShareOut.{ShareOut}
 use Rattle.model.specs.Sheet.{agents_of, chores_of, as_read}
 use Rattle.model.specs.Algorithm.{State, Ends}
@@ -39,7 +39,7 @@ pub record Shared (s owners prices lent bytes : List ℕ) (moves cuts : ℕ) : T
 
 -- What a share-out leaves that is not turned down: all that `allocate` promises, and the run's moves in `bytes`.
 pub record SharedWith (s owners prices scratch lent owners' prices' scratch' bytes : List ℕ) (r : ShareOut) : Type 0 where
-  pub allocated : Allocated s owners prices scratch owners' prices' scratch' r
+  pub allocated : Allocated s owners prices scratch owners' prices' scratch' (Ok r)
   pub final : State
   pub ends : Ends (as_read s) final
   pub noted : Holding (moves_in (as_read s) ends.steps) lent bytes

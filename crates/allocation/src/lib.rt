@@ -4,13 +4,14 @@
 ghost use Rattle.std.specs.Prelude.{◌≤◌, ◌≡◌, length, replicate};
 ghost use Rattle.model.specs.Limits.{max_agents, max_chores, scratch_size};
 ghost use Rattle.model.specs.Sheet.{chores_of};
+ghost use Rattle.model.specs.RefusalNumbers.{number_of};
 ghost use Rattle.model.specs.Refusals.{allocate_refusal};
 ghost use Rattle.model.specs.Promises.{Allocated};
 ghost use Rattle.allocation.specs.Shared.{few, Sharing, Working, Long, Shared, SharedWith};
 
+use model::{Refusal, ShareOut};
 use opening::{no_likes, open};
 use runs::run;
-use sheet::or_else;
 use steps::Stand;
 use totals::clear;
 
@@ -162,18 +163,15 @@ pub fn share(
     share_many(sheet, owners, prices, scratch, record)
 }
 
-// The number that a share-out is turned down with, 0 where it is not.
-pub fn allocate_refusal(sheet: &[u8], owners: usize, prices: usize, scratch: usize) -> u8
-    ensures { result ≡ allocate_refusal sheet.now owners prices scratch }
+// What a share-out is turned down for.
+pub fn admit(sheet: &[u8], owners: usize, prices: usize, scratch: usize) -> Result<(), Refusal>
+    ensures { number_of result ≡ allocate_refusal sheet.now owners prices scratch }
 {
-    let of_sheet = sheet::sheet_refusal(sheet);
-    if of_sheet != 0 {
-        return of_sheet;
-    }
+    sheet::admit_sheet(sheet)?;
     let m = sheet::chores(sheet);
-    let refusal = sheet::lent_refusal(m, owners);
-    let refusal = or_else(refusal, sheet::lent_refusal(m, prices));
-    or_else(refusal, sheet::lent_refusal(model::SCRATCH_SIZE, scratch))
+    sheet::admit_lent(m, owners)?;
+    sheet::admit_lent(m, prices)?;
+    sheet::admit_lent(model::SCRATCH_SIZE, scratch)
 }
 
 // The share-out of what is not turned down, with or without a record of its moves.
@@ -183,7 +181,7 @@ pub fn share_out(
     prices: &mut [u32],
     scratch: &mut [u8],
     record: &mut [u8],
-) -> model::ShareOut
+) -> ShareOut
     requires { allocate_refusal sheet.now (length owners.old) (length prices.old) (length scratch.old) ≡ 0 }
     ensures { SharedWith sheet.now owners.old prices.old scratch.old «record».old owners.new prices.new scratch.new «record».new result }
 {
@@ -196,9 +194,10 @@ pub fn share_out(
         record,
     );
     clear(scratch);
-    let moves = counts.moves;
-    let cuts = counts.cuts;
-    model::ShareOut::Shared { moves, cuts }
+    ShareOut {
+        moves: counts.moves,
+        cuts: counts.cuts,
+    }
 }
 
 pub fn allocate(
@@ -206,13 +205,10 @@ pub fn allocate(
     owners: &mut [u8],
     prices: &mut [u32],
     scratch: &mut [u8],
-) -> model::ShareOut
+) -> Result<ShareOut, Refusal>
     ensures { Allocated sheet.now owners.old prices.old scratch.old owners.new prices.new scratch.new result }
 {
-    let refusal = allocate_refusal(sheet, owners.len(), prices.len(), scratch.len());
-    if refusal != 0 {
-        return model::ShareOut::Refused(refusal);
-    }
+    admit(sheet, owners.len(), prices.len(), scratch.len())?;
     let mut unrecorded = [0u8; 0];
-    share_out(sheet, owners, prices, scratch, &mut unrecorded)
+    Ok(share_out(sheet, owners, prices, scratch, &mut unrecorded))
 }

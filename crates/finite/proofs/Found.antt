@@ -6,15 +6,17 @@ use Rattle.std.specs.Iterator.{YieldsThen}
 use Rattle.std.specs.List.{FoldsTo, range_with_len, HoldsAt, AllWithin}
 use Rattle.std.specs.Fn.{Called, CalledAt}
 use Rattle.std.specs.declared.ops.Range.{Range}
-use Rattle.std.proofs.iter.Yields.{nat_range_steps}
+use Rattle.std.specs.declared.slice.Iter.{Iter}
+use Rattle.std.specs.Slice.Iter.{iter_rest}
+use Rattle.std.proofs.iter.Yields.{nat_range_steps, fronts}
 use Rattle.std.specs.Prelude.{⊤}
-use Rattle.std.proofs.lemmas.Iterator.{first_from_Range, cases_from_any, YieldsList-from_range}
+use Rattle.std.proofs.lemmas.Iterator.{first_from_Range, cases_from_any, cases_from_all, YieldsList-from_range, YieldsList-from_slice}
 use Rattle.std.proofs.lemmas.List.FromFn.{get_or-range_with_len, length-range_with_len}
 use denote.Ref.{Bor}
 use denote.Param.Members.{Mut}
 use borrow.Author.Tests.{lt-ltb, le-ltb}
-use Rattle.finite.specs.Search.{any_below, first_below, if_below}
-use Rattle.finite.proofs.Search.{any_intro, any_none_intro, first_none_intro, first_unique}
+use Rattle.finite.specs.Search.{any_below, all_below, first_below, if_below}
+use Rattle.finite.proofs.Search.{all_intro, all_fails_intro, any_intro, any_none_intro, first_none_intro, first_unique}
 
 pub below_some : {n r : ℕ} → r < n → if_below n r ≡ Some r
 unfolding if_below
@@ -53,3 +55,16 @@ any_in n t u f r d calls =
     answer : (r : Bool) → MatchBool r ((k : ℕ) × (k < length (range_with_len 0 n)) × HoldsAt (λ x. t x ≡ true) (range_with_len 0 n) k) (AllWithin (λ x. t x ≡ false) (range_with_len 0 n) 0 (length (range_with_len 0 n))) → r ≡ any_below n t
     answer true h = let l : h.0 < n = omega (arith, long, h.1) in sym (any_intro t h.0 l (rw (at h.0 l) at (h.2 0)))
     answer false h = sym (any_none_intro n t (λ k l. rw (at k l) at (h k 0 (omega arith) (omega (arith, long)))))
+
+-- and `xs.iter().all(|x| ..)`
+pub all_over : {F : Type 0} {g : Mut F (Bor ℕ × Unit {0}) Bool} {s : Iter ℕ} (xs : List ℕ) (t : ℕ → Bool) (u : Iter ℕ) (f : F) (r : Bool)
+    → iter_rest s ≡ xs
+    → (ys : List (Bor ℕ)) × (o : Option (Bor ℕ)) × (j : F) × YieldsThen fronts s ys o u × FoldsTo (λ p x q. Called g p (x, tt) true q) f ys j × MatchOption o (r ≡ true) (λ x. (r ≡ false) × ((h : F) × Called g j (x, tt) false h))
+    → ((x : Bor ℕ) (b : Bool) (q : F) → Called g f (x, tt) b q → (q ≡ f) × (b ≡ t x.now))
+    → r ≡ all_below (length xs) (λ k. t (get_or xs k 0))
+all_over xs t u f r rest d calls =
+    answer r (cases_from_all u f r (λ x. t x ≡ true) (λ x. t x ≡ false) d (YieldsList-from_slice xs rest) (λ x q e. let h = calls x true q e in (h.0, sym h.1)) (λ x q e. sym (calls x false q e).1))
+  where
+    answer : (r : Bool) → MatchBool r (AllWithin (λ x. t x ≡ true) xs 0 (length xs)) ((k : ℕ) × (k < length xs) × HoldsAt (λ x. t x ≡ false) xs k) → r ≡ all_below (length xs) (λ k. t (get_or xs k 0))
+    answer true h = sym (all_intro (length xs) (λ k. t (get_or xs k 0)) (λ k l. h k 0 (omega arith) l))
+    answer false h = sym (all_fails_intro (λ k. t (get_or xs k 0)) h.0 h.1 (h.2 0))

@@ -6,40 +6,35 @@ ghost use Rattle.std.specs.Prelude.{◌≡◌, ◌<◌, cond, eqb};
 ghost use Rattle.finite.specs.Search.{first_below};
 ghost use Rattle.model.specs.Instance.{owner_of};
 ghost use Rattle.model.specs.Sheet.{agents_of};
+ghost use Rattle.model.specs.RefusalNumbers.{number_of};
 ghost use Rattle.model.specs.Refusals.{owners_refusal};
 ghost use Rattle.sheet.specs.Readers.{Read};
 ghost use Rattle.given.specs.Given.{given_refusal, Given, Owned, Marked};
 ghost use Rattle.given.specs.Burdens.{burdens};
 
-// The number that a list of owners is turned down with, 0 where it is not.
-fn owners_refusal(owners: &[u8], n: usize, m: usize) -> u8
-    ensures { result ≡ owners_refusal n m owners.now }
+use model::Refusal;
+
+// What a list of owners is turned down for.
+fn admit_owners(owners: &[u8], n: usize, m: usize) -> Result<(), Refusal>
+    ensures { number_of result ≡ owners_refusal n m owners.now }
 {
     if owners.len() != m {
-        return 6;
+        return Err(Refusal::OwnerCount);
     }
-    let mut c = 0;
-    while c < m {
-        let number = owners[c] as usize;
-        if number == 0 || number > n {
-            return 7;
-        }
-        c += 1;
+    if !owners.iter().all(|&owner| !sheet::out_of_range(owner as usize, n)) {
+        return Err(Refusal::Owner);
     }
-    0
+    Ok(())
 }
 
-// The number that a sheet with a list of owners is turned down with, 0 where it is not. The list is read only where its sheet is whole.
-pub fn given_refusal(sheet: &[u8], owners: &[u8]) -> u8
-    ensures { result ≡ given_refusal sheet.now owners.now }
+// What a sheet with a list of owners is turned down for. The list is read only where its sheet is whole.
+pub fn admit_given(sheet: &[u8], owners: &[u8]) -> Result<(), Refusal>
+    ensures { number_of result ≡ given_refusal sheet.now owners.now }
 {
-    let of_sheet = sheet::sheet_refusal(sheet);
-    if of_sheet != 0 {
-        return of_sheet;
-    }
+    sheet::admit_sheet(sheet)?;
     let n = sheet::agents(sheet);
     let m = sheet::chores(sheet);
-    owners_refusal(owners, n, m)
+    admit_owners(owners, n, m)
 }
 
 // The agent that owns a chore. Agents are counted from 0 here, and from 1 in a list of owners.

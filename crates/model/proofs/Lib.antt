@@ -6,3 +6,4 @@ pub mod Cases
 pub mod Starred
 pub mod Pairs
 pub mod MostMoves
+pub mod Refusing

@@ -12,6 +12,7 @@ pub mod Step2b
 pub mod Algorithm
 pub mod Record
 pub mod Refusals
+pub mod RefusalNumbers
 pub mod Replies
 pub mod Verdicts
 pub mod MostMoves

@@ -1,11 +1,10 @@
 -- What each public call promises, refused or not. In each record plain names are the lists as handed in, and primed ones the same memory when
 -- the call returns. `sheet_refusal` promises `r ≡ sheet_refusal sheet`, and the price check, which lends nothing, `PricesChecked`.
-use Rattle.std.specs.Prelude.{ℕ, ◌≤◌, ◌<◌, ◌+◌, ◌-◌, ◌*◌, true, false, cond, List, [], ◌++◌, ◌≡◌, eqb, length, get_or, take, drop, replicate}
+use Rattle.std.specs.Prelude.{ℕ, ◌≤◌, ◌<◌, ◌+◌, ◌-◌, ◌*◌, true, false, cond, List, [], ◌++◌, Result, Ok, Err, ◌≡◌, eqb, length, get_or, take, drop, replicate}
+use Rattle.model.specs.declared.Refusal.{Refusal}
 use Rattle.model.specs.declared.ShareOut.{ShareOut}
-use Rattle.model.specs.declared.Join.{Join}
 use Rattle.model.specs.declared.ListVerdict.{ListVerdict}
 use Rattle.model.specs.declared.PriceVerdict.{PriceVerdict}
-use Rattle.model.specs.declared.Measures.{Measures}
 use Rattle.model.specs.declared.BookResult.{BookResult}
 use Rattle.model.specs.Limits.{max_slack}
 use Rattle.model.specs.Instance.{Instance, owner_of}
@@ -18,6 +17,7 @@ use Rattle.model.specs.MaximinShare.{is_partition, bundle_cost, costliest_bundle
 use Rattle.model.specs.Algorithm.{State, lacking, opening, after, Ends}
 use Rattle.model.specs.Record.{Move, moves_in, move_size, record_of, move_in, played, Hands, move_at}
 use Rattle.model.specs.Refusals.{sheet_refusal, allocate_refusal, recorded_refusal, join_refusal, show_refusal, measures_refusal, measured_list_refusal, lookup_refusal, book_refusal}
+use Rattle.model.specs.RefusalNumbers.{number_of}
 use Rattle.model.specs.Replies.{Reply, refused, shared, joined, absent, holds, wasteful, accepted, share_out_reply, join_reply, list_reply, price_reply, reply_at}
 use Rattle.model.specs.Verdicts.{unless_refused, list_check, price_check}
 use Rattle.model.specs.MostMoves.{round_moves, most_moves}
@@ -58,7 +58,7 @@ pub record FewMoves (s : List ℕ) (final : State) : Type 0 where
   pub in_all : final.moves ≤ most_moves (agents_of s) (chores_of s)
 
 -- The share-out of a sheet that is not refused.
-pub record SharedOut (s owners prices scratch owners' prices' scratch' : List ℕ) (r : ShareOut) : Type 0 where
+pub record SharedOut (s owners prices scratch owners' prices' scratch' : List ℕ) (r : Result ShareOut Refusal) : Type 0 where
   pub final : State
   pub demand3 : Demand3 s final
   pub few : FewMoves s final
@@ -72,14 +72,14 @@ pub record SharedOut (s owners prices scratch owners' prices' scratch' : List �
   pub zeros : scratch' ≡ replicate (length scratch) 0
 
 -- A refused share-out. "The number is all that is returned, and lent memory keeps its content."
-pub record NotShared (k : ℕ) (owners prices scratch owners' prices' scratch' : List ℕ) (r : ShareOut) : Type 0 where
+pub record NotShared (k : ℕ) (owners prices scratch owners' prices' scratch' : List ℕ) (r : Result ShareOut Refusal) : Type 0 where
   pub answer : share_out_reply r ≡ refused k
   pub owners_kept : owners' ≡ owners
   pub prices_kept : prices' ≡ prices
   pub scratch_kept : scratch' ≡ scratch
 
 -- The share-out: `allocate(sheet, owners, prices, scratch)`.
-pub record Allocated (s owners prices scratch owners' prices' scratch' : List ℕ) (r : ShareOut) : Type 0 where
+pub record Allocated (s owners prices scratch owners' prices' scratch' : List ℕ) (r : Result ShareOut Refusal) : Type 0 where
   pub not_refused : allocate_refusal s (length owners) (length prices) (length scratch) ≡ 0 → SharedOut s owners prices scratch owners' prices' scratch' r
   pub turned_down :
       (allocate_refusal s (length owners) (length prices) (length scratch) ≡ 0 → ⊥)
@@ -115,7 +115,7 @@ pub record Written (moves : List Move) (bytes bytes' : List ℕ) : Type 0 where
   pub again : (k : ℕ) → k < length moves → move_in bytes' k ≡ move_at moves k
 
 -- The share-out with a record of its moves: `allocate_recorded(sheet, owners, prices, scratch, record)`.
-pub record Recorded (s owners prices scratch bytes owners' prices' scratch' bytes' : List ℕ) (r : ShareOut) : Type 0 where
+pub record Recorded (s owners prices scratch bytes owners' prices' scratch' bytes' : List ℕ) (r : Result ShareOut Refusal) : Type 0 where
   -- a sheet that breaks no rule has its run; another is refused whatever the moves
   pub moves : List Move
   pub run : sheet_refusal s ≡ 0 → RunMoves s moves
@@ -135,7 +135,7 @@ pub record Dominating (s owners lent lent' : List ℕ) : Type 0 where
   pub kept : drop (chores_of s) lent' ≡ drop (chores_of s) lent
 
 -- The list check: `check_list(sheet, owners, slack, dominating)`. "The list check writes its result list only with `wasteful`".
-pub record ListChecked (s owners : List ℕ) (slack : ℕ) (lent lent' : List ℕ) (r : ListVerdict) : Type 0 where
+pub record ListChecked (s owners : List ℕ) (slack : ℕ) (lent lent' : List ℕ) (r : Result ListVerdict Refusal) : Type 0 where
   pub answer : list_reply r ≡ list_check s owners slack (length lent)
   pub shown : list_check s owners slack (length lent) ≡ wasteful → Dominating s owners lent lent'
   pub kept : (list_check s owners slack (length lent) ≡ wasteful → ⊥) → lent' ≡ lent
@@ -143,7 +143,7 @@ pub record ListChecked (s owners : List ℕ) (slack : ℕ) (lent lent' : List �
   pub larger : list_reply r ≡ holds → (t : ℕ) → slack ≤ t → t ≤ max_slack → list_check s owners t (length lent) ≡ holds
 
 -- The price check: `check_prices(sheet, owners, prices)`.
-pub record PricesChecked (s owners prices : List ℕ) (r : PriceVerdict) : Type 0 where
+pub record PricesChecked (s owners prices : List ℕ) (r : Result PriceVerdict Refusal) : Type 0 where
   pub answer : price_reply r ≡ price_check s owners prices
   -- "An accepted list also holds, whoever proposed the prices.": at every slack of 1 and above
   pub holding : price_reply r ≡ accepted → HoldsFromOne s owners
@@ -157,7 +157,7 @@ joined_over first second lent =
     lent
 
 -- Two sheets joined: `join_sheets(first, second, joined)`.
-pub record SheetsJoined (first second lent lent' : List ℕ) (r : Join) : Type 0 where
+pub record SheetsJoined (first second lent lent' : List ℕ) (r : Result ℕ Refusal) : Type 0 where
   pub answer : join_reply r ≡ unless_refused (join_refusal first second (length lent)) (joined (length (joined_sheet first second)))
   pub at_exit : lent' ≡ joined_over first second lent
   -- the joined sheet breaks no rule, so every call takes it, the measures where they take the strands
@@ -189,10 +189,10 @@ measures_over s before = cond (eqb (measures_refusal s) 0) (measures_of s ++ dro
 
 -- Everyone's own measure: `measures(sheet)`, which "writes nothing that is lent", answers a list that held zeros before. For C it is one that is
 -- lent: `measures_over(sheet, before)`.
-pub record Measured (s before : List ℕ) (r : Measures) : Type 0 where
-  pub answer : r.refusal ≡ measures_refusal s
-  pub numbers : r.numbers ≡ measures_over s before
-  pub secured : r.refusal ≡ 0 → (i : ℕ) → i < agents_of s → Secured (as_marked s) i (get_or r.numbers i 0)
+pub record Measured (s before : List ℕ) (refusal : ℕ) (after : List ℕ) : Type 0 where
+  pub answer : refusal ≡ measures_refusal s
+  pub numbers : after ≡ measures_over s before
+  pub secured : refusal ≡ 0 → (i : ℕ) → i < agents_of s → Secured (as_marked s) i (get_or after i 0)
 
 -- A list that respects the measures. "Several lists can qualify: which one is left free, and the two properties must hold of it.": it is free
 -- but for what stands here. "Evenness isn't promised for these lists."
@@ -221,9 +221,10 @@ pub record SheetFound (book : List ℕ) (number refusal : ℕ) (sheet : List ℕ
   pub answer : refusal ≡ lookup_refusal book number
   pub part : sheet ≡ lookup book number
 
--- the entry of the results that belongs to sheet j, counted from 0
-unfoldable pub entry_at : BookResult → ℕ → Reply
-entry_at r j = reply_at r.sheets j
+-- the entry of the results that belongs to sheet j, counted from 0; a refused book has none
+unfoldable pub entry_at : Result BookResult Refusal → ℕ → Reply
+entry_at (Ok book) j = reply_at book.sheets j
+entry_at (Err k) j = absent
 
 -- The share-out of a book that is not refused.
 pub record BookSharedOut (book owners prices scratch owners' prices' scratch' : List ℕ) (r : BookResult) : Type 0 where
@@ -233,9 +234,8 @@ pub record BookSharedOut (book owners prices scratch owners' prices' scratch' : 
   -- and takes few moves, so that all of them together do
   pub few : (j : ℕ) → j < sheet_count book → takes_sheet book j ≡ true → FewMoves (sheet_of book j) (finals j)
   pub few_in_all : r.tally.moves ≤ most_in_book book
-  pub refusal : r.refusal ≡ 0
   pub count : r.count ≡ sheet_count book
-  pub answers : (j : ℕ) → entry_at r j ≡ sheet_answer book finals j
+  pub answers : (j : ℕ) → reply_at r.sheets j ≡ sheet_answer book finals j
   pub moves : r.tally.moves ≡ tally_of book finals (λ x. x.moves)
   pub cuts : r.tally.cuts ≡ tally_of book finals (λ x. x.cuts)
   pub owners_at_exit : owners' ≡ long_list book finals (λ x. x.owners) owners
@@ -243,19 +243,18 @@ pub record BookSharedOut (book owners prices scratch owners' prices' scratch' : 
   pub zeros : scratch' ≡ replicate (length scratch) 0
 
 -- A refused book. "The number is all that is returned"
-pub record BookNotShared (k : ℕ) (owners prices scratch owners' prices' scratch' : List ℕ) (r : BookResult) : Type 0 where
-  pub refusal : r.refusal ≡ k
-  pub count : r.count ≡ 0
+pub record BookNotShared (k : ℕ) (owners prices scratch owners' prices' scratch' : List ℕ) (r : Result BookResult Refusal) : Type 0 where
+  pub refusal : number_of r ≡ k
   pub answers : (j : ℕ) → entry_at r j ≡ absent
-  pub moves : r.tally.moves ≡ 0
-  pub cuts : r.tally.cuts ≡ 0
   pub owners_kept : owners' ≡ owners
   pub prices_kept : prices' ≡ prices
   pub scratch_kept : scratch' ≡ scratch
 
 -- The whole book. `allocate_book` is lent its prices as bytes, and promises this of the numbers that they hold: `BookInBytes` of `cmodel`.
-pub record BookAllocated (book owners prices scratch owners' prices' scratch' : List ℕ) (r : BookResult) : Type 0 where
-  pub not_refused : book_refusal book (length owners) (length prices) (length scratch) ≡ 0 → BookSharedOut book owners prices scratch owners' prices' scratch' r
+pub record BookAllocated (book owners prices scratch owners' prices' scratch' : List ℕ) (r : Result BookResult Refusal) : Type 0 where
+  pub not_refused :
+      book_refusal book (length owners) (length prices) (length scratch) ≡ 0
+      → (out : BookResult) × (r ≡ Ok out) × BookSharedOut book owners prices scratch owners' prices' scratch' out
   pub turned_down :
       (book_refusal book (length owners) (length prices) (length scratch) ≡ 0 → ⊥)
       → BookNotShared (book_refusal book (length owners) (length prices) (length scratch)) owners prices scratch owners' prices' scratch' r

@@ -1,24 +1,67 @@
 // The answers of the public calls. What each of them says is defined in specs/.
 #![tactic(auto)]
 
-// The share-out of one sheet.
-#[derive(Clone, Copy)]
-pub enum ShareOut {
-    Refused(u8),
-    Shared { moves: u64, cuts: u8 },
+ghost use Rattle.std.specs.Prelude.{◌≡◌};
+ghost use Rattle.model.specs.RefusalNumbers.{refusal_number, number_of};
+
+use std::fmt;
+
+// What a call is turned down for. Its number is the documents'.
+#[derive(Clone, Copy, Debug, PartialEq, Eq)]
+pub enum Refusal {
+    Agents = 1,
+    Chores = 2,
+    Weights = 3,
+    Marks = 4,
+    Length = 5,
+    OwnerCount = 6,
+    Owner = 7,
+    // A list that is lent is too short.
+    Lent = 8,
+    // A book against its rule, or a sheet, person or chore that isn't there.
+    NotThere = 9,
+    Prices = 10,
+    Record = 11,
+    Strands = 12,
+    Slack = 13,
+    Multiple = 14,
 }
 
-// Two sheets joined: the size of the joined sheet.
+impl From<Refusal> for u8 {
+    ghost from_gives = { λ refusal number. number ≡ refusal_number refusal };
+
+    fn from(refusal: Refusal) -> u8 {
+        refusal as u8
+    }
+}
+
+// Its number is all that is told of a refusal.
+impl fmt::Display for Refusal {
+    fn fmt<W: fmt::Write>(&self, f: &mut fmt::Formatter<W>) -> fmt::Result {
+        write!(f, "{}", u8::from(*self))
+    }
+}
+
+// The number for C, 0 where nothing was refused.
+pub fn number_of(answer: Result<(), Refusal>) -> u8
+    ensures { result ≡ number_of answer }
+{
+    match answer {
+        Ok(()) => 0,
+        Err(refusal) => u8::from(refusal),
+    }
+}
+
+// The share-out of one sheet.
 #[derive(Clone, Copy)]
-pub enum Join {
-    Refused(u8),
-    Joined { size: usize },
+pub struct ShareOut {
+    pub moves: u64,
+    pub cuts: u8,
 }
 
 // The list check. With `Wasteful` a dominating list is in the lent list.
 #[derive(Clone, Copy)]
 pub enum ListVerdict {
-    Refused(u8),
     Holds,
     Unfair(u8, u8),
     Wasteful,
@@ -27,45 +70,17 @@ pub enum ListVerdict {
 // The price check.
 #[derive(Clone, Copy)]
 pub enum PriceVerdict {
-    Refused(u8),
     OffPrice(u16),
     PriceEnvy(u8, u8),
     Accepted,
 }
 
-// One sheet of a book: refused, or shared out from entry `first` of the long lists on; or the book has no such sheet.
+// One sheet of a book, shared out from entry `first` of the long lists on.
 #[derive(Clone, Copy)]
-pub enum SheetResult {
-    Absent,
-    Refused(u8),
-    Shared { moves: u64, cuts: u8, first: usize },
-}
-
-// An array of enums as a field is not covered by the borrow checker, an array of structs is.
-#[derive(Clone, Copy)]
-pub struct SheetEntry {
-    pub result: SheetResult,
-}
-
-// What a lookup finds: its refusal number, or 0 and the part of the caller's book.
-#[derive(Clone, Copy)]
-pub struct Found<'a> {
-    pub refusal: u8,
-    pub sheet: &'a [u8],
-}
-
-// What is shown of two strands: a refusal number, or 0 and an agent's row as a part of one of the two sheets lent.
-#[derive(Clone, Copy)]
-pub struct Shown<'a> {
-    pub refusal: u8,
-    pub marks: &'a [u8],
-}
-
-// Everyone's own measure: a refusal number, or 0 and the numbers of the agents, in their order.
-#[derive(Clone, Copy)]
-pub struct Measures {
-    pub refusal: u8,
-    pub numbers: [u32; MAX_AGENTS],
+pub struct SheetShare {
+    pub moves: u64,
+    pub cuts: u8,
+    pub first: usize,
 }
 
 // The running tally of moves and cuts.
@@ -75,12 +90,11 @@ pub struct Tally {
     pub cuts: u64,
 }
 
-// A whole book: its refusal number, or 0 and its sheets' results.
+// A whole book: what its sheets came to, and nothing for a sheet that it does not have.
 #[derive(Clone, Copy)]
 pub struct BookResult {
-    pub refusal: u8,
     pub count: u8,
-    pub sheets: [SheetEntry; 16],
+    pub sheets: [Option<Result<SheetShare, Refusal>>; MAX_SHEETS],
     pub tally: Tally,
 }
 

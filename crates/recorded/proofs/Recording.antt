@@ -8,6 +8,8 @@ use lib.ListN.{length, drop}
 use lib.Seq.{take_at, drop_at}
 use borrow.Author.Tests.{le-ltb}
 use Rattle.finite.proofs.Tests.{cond_false}
+use Rattle.std.specs.Prelude.{Result, Ok}
+use Rattle.model.specs.declared.Refusal.{Refusal}
 use Rattle.model.specs.declared.ShareOut.{ShareOut}
 use Rattle.model.specs.Sheet.{agents_of, chores_of, as_read}
 use Rattle.model.specs.Record.{Move, move_size, record_of}
@@ -16,6 +18,7 @@ use Rattle.model.specs.Refusals.{record_refusal, recorded_refusal}
 use Rattle.model.specs.Replies.{refused}
 use Rattle.model.specs.Promises.{Written, Recorded}
 use Rattle.model.proofs.Record.{read_back}
+use Rattle.model.proofs.Refusing.{Left}
 use Rattle.model.proofs.Unique.{unique}
 use Rattle.records.specs.Noted.{Holding}
 use Rattle.records.proofs.Bytes.{record_length}
@@ -60,17 +63,17 @@ refusal s owners prices scratch lent =
     recorded_refusal s (length owners) (length prices) (length scratch) (length (moves_for s)) (length lent)
 
 module _ {s owners prices scratch lent : List ℕ} where
-  pub refused_kept : {k : ℕ} → k ≡ refusal s owners prices scratch lent → (k ≡ 0 → ⊥) → Recorded s owners prices scratch lent owners prices scratch lent (ShareOut.Refused k)
+  pub refused_kept : {r : Result ShareOut Refusal} → Left r (refusal s owners prices scratch lent) → Recorded s owners prices scratch lent owners prices scratch lent r
   unfolding moves_for
-  refused_kept e h =
+  refused_kept L =
       record {
         moves = moves_for s;
         run = run_of s;
-        not_refused = λ z. absurd (h (e ∙ z));
-        turned_down = λ n. (record { answer = ap refused e; owners_kept = refl; prices_kept = refl; scratch_kept = refl }, refl);
+        not_refused = λ z. let p = L.positive in absurd (omega (arith, z, p));
+        turned_down = λ n. (record { answer = rw L.is (ap refused L.number); owners_kept = refl; prices_kept = refl; scratch_kept = refl }, refl);
       }
 
-  pub recorded_out : {owners' prices' scratch' bytes : List ℕ} {r : ShareOut} → refusal s owners prices scratch lent ≡ 0 → SharedWith s owners prices scratch lent owners' prices' scratch' bytes r → Recorded s owners prices scratch lent owners' prices' scratch' bytes r
+  pub recorded_out : {owners' prices' scratch' bytes : List ℕ} {out : ShareOut} → refusal s owners prices scratch lent ≡ 0 → SharedWith s owners prices scratch lent owners' prices' scratch' bytes out → Recorded s owners prices scratch lent owners' prices' scratch' bytes (Ok out)
   unfolding moves_for
   recorded_out {bytes = bytes} e S =
       let room = recorded_taken s (length owners) (length prices) (length scratch) (length (moves_for s)) (length lent) e in

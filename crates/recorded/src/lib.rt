@@ -4,10 +4,13 @@
 ghost use Rattle.std.specs.Prelude.{◌≡◌, length};
 ghost use Rattle.model.specs.Sheet.{agents_of, chores_of};
 ghost use Rattle.model.specs.MostMoves.{most_moves};
+ghost use Rattle.model.specs.RefusalNumbers.{number_of};
 ghost use Rattle.model.specs.Refusals.{recorded_refusal};
 ghost use Rattle.model.specs.Promises.{Recorded};
 ghost use Rattle.sheet.specs.Valid.{Valid};
 ghost use Rattle.recorded.specs.Moves.{moves_for};
+
+use model::{Refusal, ShareOut};
 
 // How many moves a share-out takes, by a run on lists of its own: nothing lent may be written before the record is known to have room. Not inlined:
 // its lists leave the stack before the share-out that records makes its own.
@@ -41,20 +44,21 @@ fn most_moves(sheet: &[u8]) -> u64
     (n * ((n - 1) * m)) as u64
 }
 
-// The number that a share-out with a record is turned down with, 0 where it is not. Where there is room for the most moves, none are counted.
-fn recorded_refusal(sheet: &[u8], owners: usize, prices: usize, scratch: usize, bytes: usize) -> u8
-    ensures { result ≡ recorded_refusal sheet.now owners prices scratch (length (moves_for sheet.now)) bytes }
+// What a share-out with a record is turned down for. Where there is room for the most moves, none are counted.
+fn admit(
+    sheet: &[u8],
+    owners: usize,
+    prices: usize,
+    scratch: usize,
+    bytes: usize,
+) -> Result<(), Refusal>
+    ensures { number_of result ≡ recorded_refusal sheet.now owners prices scratch (length (moves_for sheet.now)) bytes }
 {
-    let refusal = allocation::allocate_refusal(sheet, owners, prices, scratch);
-    if refusal != 0 {
-        return refusal;
+    allocation::admit(sheet, owners, prices, scratch)?;
+    if records::admit_moves(most_moves(sheet), bytes).is_ok() {
+        return Ok(());
     }
-    let of_most = records::record_refusal(most_moves(sheet), bytes);
-    if of_most == 0 {
-        return 0;
-    }
-    let moves = count_moves(sheet);
-    records::record_refusal(moves, bytes)
+    records::admit_moves(count_moves(sheet), bytes)
 }
 
 pub fn allocate_recorded(
@@ -63,18 +67,15 @@ pub fn allocate_recorded(
     prices: &mut [u32],
     scratch: &mut [u8],
     record: &mut [u8],
-) -> model::ShareOut
+) -> Result<ShareOut, Refusal>
     ensures { Recorded sheet.now owners.old prices.old scratch.old «record».old owners.new prices.new scratch.new «record».new result }
 {
-    let refusal = recorded_refusal(
+    admit(
         sheet,
         owners.len(),
         prices.len(),
         scratch.len(),
         record.len(),
-    );
-    if refusal != 0 {
-        return model::ShareOut::Refused(refusal);
-    }
-    allocation::share_out(sheet, owners, prices, scratch, record)
+    )?;
+    Ok(allocation::share_out(sheet, owners, prices, scratch, record))
 }

@@ -4,8 +4,11 @@
 ghost use Rattle.std.specs.Prelude.{◌≡◌, ◌*◌, ◌+◌, ◌≤◌, length};
 ghost use Rattle.std.proofs.lemmas.List.Edits.{sets};
 ghost use Rattle.model.specs.Record.{move_size, step_of, move_bytes};
+ghost use Rattle.model.specs.RefusalNumbers.{number_of};
 ghost use Rattle.model.specs.Refusals.{record_refusal};
 ghost use Rattle.records.specs.Noted.{Numbers, move_of, Noted};
+
+use model::Refusal;
 
 // How many moves so many bytes hold. Six times a number of moves is not taken before it is known to be in the record.
 fn room(bytes: usize) -> u64
@@ -15,14 +18,14 @@ fn room(bytes: usize) -> u64
     (bytes / model::MOVE_SIZE) as u64
 }
 
-// 11 where so many moves don't fit, or else 0.
-pub fn record_refusal(moves: u64, bytes: usize) -> u8
-    ensures { result ≡ record_refusal moves bytes }
+// Whether so many moves fit in so many bytes.
+pub fn admit_moves(moves: u64, bytes: usize) -> Result<(), Refusal>
+    ensures { number_of result ≡ record_refusal moves bytes }
 {
     if moves > room(bytes) {
-        return 11;
+        return Err(Refusal::Record);
     }
-    0
+    Ok(())
 }
 
 // 1 for 2a, 2 for 2b, which is stage 0.

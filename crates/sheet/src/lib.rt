@@ -1,4 +1,4 @@
-// Reading a sheet: its header, its marks, and the number that it is turned down with. Agents and chores are counted from 0.
+// Reading a sheet: its header, its marks, and what it is turned down for. Agents and chores are counted from 0.
 #![tactic(auto)]
 
 ghost use Rattle.std.specs.Prelude.{◌≡◌, ◌+◌, ◌*◌, ◌-◌, ◌≤◌, ◌<◌, cond, not, eqb, length, get_or};
@@ -7,8 +7,11 @@ ghost use Rattle.finite.specs.Bits.{bit};
 ghost use Rattle.finite.specs.Packed.{bytes_for};
 ghost use Rattle.model.specs.Limits.{out_of_range};
 ghost use Rattle.model.specs.Sheet.{header_size, agents_of, chores_of, easy_weight, difficult_weight, row_of, is_difficult, marks_easy, sheet_length, difficult_marks, all_difficult};
+ghost use Rattle.model.specs.RefusalNumbers.{number_of};
 ghost use Rattle.model.specs.Refusals.{◌or_else◌, ◌when◌, weights_fault, set_after, marks_fault, header_refusal, sheet_refusal, lent_refusal};
 ghost use Rattle.sheet.specs.Readers.{Read, Whole, RowInSheet, InSheet};
+
+use model::Refusal;
 
 pub fn byte_at(bytes: &[u8], i: usize) -> u32
     requires { i < length bytes.now }
@@ -120,12 +123,9 @@ pub fn difficult_marks(sheet: &[u8], m: usize, i: usize) -> usize
     requires { RowInSheet sheet.now m i }
     ensures { result ≡ difficult_marks sheet.now i }
 {
-    let size = row_size(m);
     let mut count = 0;
-    let mut k = 0;
-    while k < size {
-        count += u8::count_ones(row_byte(sheet, m, i, k)) as usize;
-        k += 1;
+    for k in 0..row_size(m) {
+        count += row_byte(sheet, m, i, k).count_ones() as usize;
     }
     count
 }
@@ -158,14 +158,7 @@ fn marks_fault(sheet: &[u8], n: usize, m: usize) -> bool
     requires n_bound { n < 256 }
     ensures { result ≡ marks_fault sheet.now }
 {
-    let mut i = 0;
-    while i < n {
-        if set_after(sheet, n, m, i) {
-            return true;
-        }
-        i += 1;
-    }
-    false
+    (0..n).any(|i| set_after(sheet, n, m, i))
 }
 
 // 0, or above the limit.
@@ -181,56 +174,55 @@ fn weights_fault(a: u32, b: u32) -> bool
     a == 0 || (b <= a || b > model::MAX_WEIGHT)
 }
 
-// The first refusal, or else the second: refusals in a row are one `or_else` for each further number.
-pub fn or_else(first: u8, second: u8) -> u8
-    ensures { result ≡ first or_else second }
+fn admit_header(n: usize, m: usize, a: u32, b: u32) -> Result<(), Refusal>
+    ensures { number_of result ≡ header_refusal n m a b }
 {
-    if first == 0 { second } else { first }
-}
-
-// A refusal's number, where its condition holds.
-pub fn when(number: u8, condition: bool) -> u8
-    ensures { result ≡ number when condition }
-{
-    if condition { number } else { 0 }
-}
-
-fn header_refusal(n: usize, m: usize, a: u32, b: u32) -> u8
-    ensures { result ≡ header_refusal n m a b }
-{
-    let refusal = when(1, out_of_range(n, model::MAX_AGENTS));
-    let refusal = or_else(refusal, when(2, m > model::MAX_CHORES));
-    or_else(refusal, when(3, weights_fault(a, b)))
+    if out_of_range(n, model::MAX_AGENTS) {
+        return Err(Refusal::Agents);
+    }
+    if m > model::MAX_CHORES {
+        return Err(Refusal::Chores);
+    }
+    if weights_fault(a, b) {
+        return Err(Refusal::Weights);
+    }
+    Ok(())
 }
 
 // The marks are read only where they are there.
-fn body_refusal(sheet: &[u8], n: usize, m: usize) -> u8
+fn admit_body(sheet: &[u8], n: usize, m: usize) -> Result<(), Refusal>
     requires read { Read (agents_of sheet.now) 256 n }
     requires read_2 { Read (chores_of sheet.now) 65536 m }
-    ensures { result ≡ 5 when not (eqb (length sheet.now) (sheet_length sheet.now)) or_else 4 when marks_fault sheet.now }
+    ensures { number_of result ≡ 5 when not (eqb (length sheet.now) (sheet_length sheet.now)) or_else 4 when marks_fault sheet.now }
 {
     if sheet.len() != row_start(m, n) {
-        return 5;
+        return Err(Refusal::Length);
     }
-    when(4, marks_fault(sheet, n, m))
+    if marks_fault(sheet, n, m) {
+        return Err(Refusal::Marks);
+    }
+    Ok(())
 }
 
-// 0 for a sheet that is not turned down.
-pub fn sheet_refusal(sheet: &[u8]) -> u8
-    ensures { result ≡ sheet_refusal sheet.now }
+// Whether a sheet breaks no rule, or the refusal of the first that it breaks.
+pub fn admit_sheet(sheet: &[u8]) -> Result<(), Refusal>
+    ensures { number_of result ≡ sheet_refusal sheet.now }
 {
     if sheet.len() < model::HEADER_SIZE {
-        return 5;
+        return Err(Refusal::Length);
     }
     let n = agents(sheet);
     let m = chores(sheet);
-    let refusal = header_refusal(n, m, easy_weight(sheet), difficult_weight(sheet));
-    or_else(refusal, body_refusal(sheet, n, m))
+    admit_header(n, m, easy_weight(sheet), difficult_weight(sheet))?;
+    admit_body(sheet, n, m)
 }
 
-// 8: a lent list is too short. Every call that is lent a list turns it down so.
-pub fn lent_refusal(needed: usize, lent: usize) -> u8
-    ensures { result ≡ lent_refusal needed lent }
+// Every call that is lent a list turns it down where it is too short.
+pub fn admit_lent(needed: usize, lent: usize) -> Result<(), Refusal>
+    ensures { number_of result ≡ lent_refusal needed lent }
 {
-    when(8, lent < needed)
+    if lent < needed {
+        return Err(Refusal::Lent);
+    }
+    Ok(())
 }

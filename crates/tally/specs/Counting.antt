@@ -1,15 +1,16 @@
 -- What a sheet's answer adds to the running tally.
-use Rattle.std.specs.Prelude.{ℕ, ◌+◌, ◌^◌, ◌<◌, ◌≡◌}
+use Rattle.std.specs.Prelude.{ℕ, ◌+◌, ◌^◌, ◌<◌, Result, Ok, Err, ◌≡◌}
+use Rattle.model.specs.declared.Refusal.{Refusal}
 use Rattle.model.specs.declared.ShareOut.{ShareOut}
 use Rattle.model.specs.declared.Tally.{Tally}
 
-abbrev pub moves_added : ShareOut → ℕ
-moves_added (ShareOut.Refused k) = 0
-moves_added (ShareOut.Shared moves cuts) = moves
+abbrev pub moves_added : Result ShareOut Refusal → ℕ
+moves_added (Ok out) = out.moves
+moves_added (Err k) = 0
 
-abbrev pub cuts_added : ShareOut → ℕ
-cuts_added (ShareOut.Refused k) = 0
-cuts_added (ShareOut.Shared moves cuts) = cuts
+abbrev pub cuts_added : Result ShareOut Refusal → ℕ
+cuts_added (Ok out) = out.cuts
+cuts_added (Err k) = 0
 
 -- a tally has room for so many more moves and cuts
 pub record Fitting (t : Tally) (m c : ℕ) : Type 0 where

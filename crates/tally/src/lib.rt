@@ -15,8 +15,8 @@ fn add(t: &mut model::Tally, moves: u64, cuts: u8)
     requires { Fitting t.old moves cuts }
     ensures { Counted t.old moves cuts t.new }
 {
-    t.moves = t.moves + moves;
-    t.cuts = t.cuts + cuts as u64;
+    t.moves += moves;
+    t.cuts += cuts as u64;
 }
 
 fn carried(mut t: model::Tally, moves: u64, cuts: u8) -> model::Tally
@@ -28,12 +28,12 @@ fn carried(mut t: model::Tally, moves: u64, cuts: u8) -> model::Tally
 }
 
 // A refused sheet counts for nothing.
-pub fn tallied(t: model::Tally, out: model::ShareOut) -> model::Tally
-    requires { Fitting t (moves_added out) (cuts_added out) }
-    ensures { Counted t (moves_added out) (cuts_added out) result }
+pub fn tallied(t: model::Tally, answer: Result<model::ShareOut, model::Refusal>) -> model::Tally
+    requires { Fitting t (moves_added answer) (cuts_added answer) }
+    ensures { Counted t (moves_added answer) (cuts_added answer) result }
 {
-    match out {
-        model::ShareOut::Refused(_) => t,
-        model::ShareOut::Shared { moves, cuts } => carried(t, moves, cuts),
+    match answer {
+        Ok(out) => carried(t, out.moves, out.cuts),
+        Err(_) => t,
     }
 }

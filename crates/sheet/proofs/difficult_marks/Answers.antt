@@ -13,7 +13,7 @@ use Rattle.sheet.proofs.difficult_marks.Goals as goal
 
 pub loop-k-init : goal.loop-k-init
 unfolding count_to
-loop-k-init c = (omega arith, sym (sum_zero _))
+loop-k-init c = sym (sum_zero _)
 
 pub overflow_cast-count : goal.overflow_cast-count
 overflow_cast-count c =
@@ -25,7 +25,7 @@ overflow_add-count c =
     let few_ones : ones c.row_byte.result ≤ 8 = ones-le 8 _ c.row_byte.ensures.below in
     let loop = c.loop-k in
     let args = c.args in
-    omega (arith, few_ones, loop.invariant.1, count_le (8 * loop.k) (bit_at (row_of args.sheet.now args.i)), c.row_size-size.ensures)
+    omega (arith, few_ones, loop.invariant, count_le (8 * loop.k) (bit_at (row_of args.sheet.now args.i)), c.row_size-k-end.ensures)
 
 pub loop-k-preserved : goal.loop-k-preserved
 loop-k-preserved c =
@@ -33,10 +33,10 @@ loop-k-preserved c =
     let args = c.args in
     let row = row_of args.sheet.now args.i in
     let byte = c.row_byte.ensures in
-    (omega arith, rw (loop.invariant.1, byte.is) (sym (count_byte row loop.k (rw byte.is at byte.below))))
+    rw (loop.invariant, byte.is) (sym (count_byte row loop.k (rw byte.is at byte.below)))
 
 pub returns : goal.returns
 returns c =
     let loop = c.loop-k in
-    let all : loop.k ≡ bytes_for c.args.m = omega (arith, c.row_size-size.ensures) in
-    count_all c.requires loop.count loop.k all loop.invariant.1
+    let all : loop.k ≡ bytes_for c.args.m = omega (arith, c.row_size-k-end.ensures) in
+    count_all c.requires loop.count loop.k all loop.invariant

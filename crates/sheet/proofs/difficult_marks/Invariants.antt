@@ -1,5 +1,5 @@
 -- `sheet::difficult_marks` meets its contract. The loop's invariant: how many bits of the bytes passed are set.
-use Prim.Native.Nat.{◌*◌, ◌-◌, ◌≤◌}
+use Prim.Native.Nat.{◌*◌}
 use mathlib.Core.Path.{◌≡◌}
 use Rattle.finite.specs.Sums.{count_to}
 use Rattle.finite.specs.Packed.{bit_at}
@@ -7,7 +7,4 @@ use Rattle.model.specs.Sheet.{row_of}
 use Rattle.sheet.proofs.difficult_marks.Given as goal
 
 abbrev pub invariant-loop-k : goal.invariant-loop-k
-invariant-loop-k l = (l.k ≤ l.size) × (l.count ≡ count_to (8 * l.k) (bit_at (row_of l.sheet l.i)))
-
-abbrev pub decreases-loop-k : goal.decreases-loop-k
-decreases-loop-k l = l.size - l.k
+invariant-loop-k l = l.count ≡ count_to (8 * l.k) (bit_at (row_of l.sheet l.i))

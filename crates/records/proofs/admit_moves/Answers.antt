@@ -2,7 +2,7 @@
 use Rattle.std.proofs.Common.{arith}
 use Rattle.std.proofs.lemmas.Bool.Decides.{nat_tests}
 use Rattle.model.specs.Refusals.{record_refusal}
-use Rattle.records.proofs.record_refusal.Goals as goal
+use Rattle.records.proofs.admit_moves.Goals as goal
 
 pub returns-then-moves-room : goal.returns-then-moves-room
 unfolding record_refusal
