@@ -1,18 +1,19 @@
 // The contents of a book: whether they keep the book's rule, and where each sheet lies. Sheets are counted from 0, and numbered from 1.
 #![tactic(auto)]
 
-ghost use Rattle.std.specs.Prelude.{◌≡◌, ◌+◌, ◌*◌, ◌≤◌, ◌<◌, length};
+ghost use Rattle.std.specs.Prelude.{◌≡◌, ◌+◌, ◌*◌, ◌≤◌, ◌<◌, [], MatchResult, length};
 ghost use Rattle.model.specs.Contents.{sheet_count, sheet_start, sheet_size, book_fits, sheet_of};
+ghost use Rattle.model.specs.RefusalNumbers.{refusal_number, number_of};
 ghost use Rattle.model.specs.Refusals.{contents_refusal, lookup_refusal};
 ghost use Rattle.model.specs.Promises.{SheetFound};
 ghost use Rattle.sheet.specs.Readers.{Read};
 ghost use Rattle.contents.specs.Parts.{bodies_fit, Contents};
 ghost use Rattle.contents.specs.Fits.{SheetInBook};
 
+use model::Refusal;
+
 // The contents are one byte of count and an entry for each sheet: two bytes of start, two of length.
 const ENTRY: usize = 4;
-
-const REFUSED: u8 = 9;
 
 pub fn count(book: &[u8]) -> usize
     requires { 0 < length book.now }
@@ -69,22 +70,24 @@ fn contents_fit(book: &[u8]) -> bool
     bodies_fit(book, k)
 }
 
-// 0 for a book that is not turned down.
-pub fn contents_refusal(book: &[u8]) -> u8
-    ensures { result ≡ contents_refusal book.now }
+// Whether a book keeps its rule.
+pub fn admit_book(book: &[u8]) -> Result<(), Refusal>
+    ensures { number_of result ≡ contents_refusal book.now }
 {
-    sheet::when(REFUSED, !contents_fit(book))
+    if !contents_fit(book) {
+        return Err(Refusal::NotThere);
+    }
+    Ok(())
 }
 
-pub fn lookup_refusal(book: &[u8], number: usize) -> u8
-    ensures { result ≡ lookup_refusal book.now number }
+pub fn admit_lookup(book: &[u8], number: usize) -> Result<(), Refusal>
+    ensures { number_of result ≡ lookup_refusal book.now number }
 {
-    let refusal = contents_refusal(book);
-    if refusal != 0 {
-        return refusal;
+    admit_book(book)?;
+    if sheet::out_of_range(number, count(book)) {
+        return Err(Refusal::NotThere);
     }
-    let k = count(book);
-    sheet::when(REFUSED, sheet::out_of_range(number, k))
+    Ok(())
 }
 
 pub fn sheet_at(book: &[u8], j: usize) -> &[u8]
@@ -97,22 +100,10 @@ pub fn sheet_at(book: &[u8], j: usize) -> &[u8]
     &rest[0..size]
 }
 
-// The part of the book that goes with a lookup's refusal number: no bytes where it is refused.
-fn part_of(book: &[u8], refusal: u8, which: usize) -> &[u8]
-    requires { refusal ≡ lookup_refusal book.now which }
-    ensures { SheetFound book.now which refusal result.now }
+// The part of the book itself, not a copy of it.
+pub fn find_sheet(book: &[u8], which: usize) -> Result<&[u8], Refusal>
+    ensures { MatchResult result (λ sheet. SheetFound book.now which 0 sheet.now) (λ refusal. SheetFound book.now which (refusal_number refusal) []) }
 {
-    if refusal != 0 {
-        return &book[0..0];
-    }
-    sheet_at(book, which - 1)
-}
-
-// The number and the part at once, so that a sheet of no bytes is told from a refused lookup.
-pub fn find_sheet<'a>(book: &'a [u8], which: usize) -> model::Found<'a>
-    ensures { SheetFound book.now which result.refusal result.sheet.now }
-{
-    let refusal = lookup_refusal(book, which);
-    let sheet = part_of(book, refusal, which);
-    model::Found { refusal, sheet }
+    admit_lookup(book, which)?;
+    Ok(sheet_at(book, which - 1))
 }

@@ -2,16 +2,19 @@
 -- Assumes nothing.
 use Prim.Native.Nat.{ℕ, ◌*◌, ◌-◌, ◌≤◌, ◌<◌}
 use mathlib.Core.List.{List}
-use mathlib.Core.Path.{◌≡◌, sym, ◌∙◌}
+use mathlib.Core.Bool.{false}
+use mathlib.Core.Path.{◌≡◌, sym, ap, ◌∙◌}
 use native.Mathlib.Nat.{le_of_lt, le_trans, mul-le-mul}
 use native.Mathlib.Omega.{arith}
 use lib.Dec.{ltb}
 use lib.ListN.{get_or}
 use borrow.Author.Tests.{ltb-false, le-ltb}
-use Rattle.finite.specs.Search.{first_below}
+use Rattle.std.specs.Prelude.{Option, None, is_some}
+use Rattle.finite.specs.Search.{first_below, if_below}
 use Rattle.finite.specs.Lists.{Table}
 use Rattle.finite.proofs.Below.{less_is}
-use Rattle.finite.proofs.Search.{first_cong, first_none, first_none_intro}
+use Rattle.finite.proofs.Search.{any_none, first_cong, first_none_intro}
+use Rattle.finite.proofs.Found.{below_none}
 use Rattle.finite.proofs.Sweeps.{sums_bound}
 use Rattle.model.specs.Limits.{max_agents, max_chores, max_weight}
 use Rattle.model.specs.Instance.{cost, owner_of}
@@ -22,6 +25,7 @@ use Rattle.model.specs.Verdicts.{envies}
 use Rattle.welfare.proofs.Slack.{rest_part, slack_test}
 use Rattle.welfare.proofs.Costs.{cost_at_most}
 use Rattle.given.specs.Given.{Given}
+use Rattle.given.proofs.Found.{any_found}
 use Rattle.given.proofs.Given.{given_few}
 use Rattle.evenness.specs.Off.{Off}
 
@@ -36,10 +40,6 @@ module _ {s owners : List ℕ} {n m : ℕ} (g : Given s owners n m) (i : ℕ) wh
 
   module _ (below : i < n) {sums : List ℕ} (h : Table max_agents (cost_to (as_marked s) (owner_of owners) i) sums) where
     module _ {t off : ℕ} (taken : Off s owners t i off) where
-      -- what is taken off is part of what i's chores cost
-      pub off_part : off ≤ get_or sums i 0
-      off_part = omega (arith, taken.whole, h.entry i (omega (arith, below, given_few g)))
-
       -- whom agent i envies, by what the rest of its chores cost
       envied : (j : ℕ) → j < n → ltb (get_or sums j 0) (get_or sums i 0 - off) ≡ envies t (as_marked s) (owner_of owners) i j
       unfolding envies
@@ -50,16 +50,18 @@ module _ {s owners : List ℕ} {n m : ℕ} (g : Given s owners n m) (i : ℕ) wh
           let rest : cost_to I x i i - off ≡ rest_cost t I x i = omega (arith, taken.whole) in
           rw (h.entry i (omega arith), h.entry j (omega arith), rest, slack_test I x i j t) (less_is (cost_to I x i j) (rest_cost t I x i))
 
-      pub envied_first : first_below n (λ j. ltb (get_or sums j 0) (get_or sums i 0 - off)) ≡ first_below n (envies t (as_marked s) (owner_of owners) i)
-      envied_first = first_cong n envied
+      pub envied_first : if_below n (first_below n (λ j. ltb (get_or sums j 0) (get_or sums i 0 - off))) ≡ if_below n (first_below n (envies t (as_marked s) (owner_of owners) i))
+      envied_first = ap (if_below n) (first_cong n envied)
 
     -- nobody's chores would cost agent i less than its own do: it envies nobody
-    pub envied_none : (t : ℕ) → n ≡ first_below n (λ j. ltb (get_or sums j 0) (get_or sums i 0)) → n ≡ first_below n (envies t (as_marked s) (owner_of owners) i)
-    envied_none t e =
+    pub envied_none : (t : ℕ) {r : Option ℕ} → r ≡ if_below n (first_below n (λ j. ltb (get_or sums j 0) (get_or sums i 0))) → is_some r ≡ false → None ≡ if_below n (first_below n (envies t (as_marked s) (owner_of owners) i))
+    envied_none t e none =
         let I = as_marked s in
         let x = owner_of owners in
         let off = cost_to I x i i - rest_cost t I x i in
         let taken : Off s owners t i off = record { whole = omega (arith, rest_part I x i t) } in
-        sym (first_none_intro n _ λ j l.
-        let dearer = ltb-false (get_or sums j 0) (get_or sums i 0) (first_none n _ (sym e) j l) in
-        sym (envied taken j l) ∙ le-ltb (get_or sums j 0) (get_or sums i 0 - off) (omega arith))
+        let nobody = sym (any_found n _) ∙ sym (ap is_some e) ∙ none in
+        let all = first_none_intro n (envies t I x i) λ j l.
+        let dearer = ltb-false (get_or sums j 0) (get_or sums i 0) (any_none n _ nobody j l) in
+        sym (envied taken j l) ∙ le-ltb (get_or sums j 0) (get_or sums i 0 - off) (omega arith) in
+        sym (rw all (below_none n))

@@ -2,7 +2,7 @@
 #![tactic(auto)]
 
 ghost use Rattle.std.specs.Prelude.{◌≡◌, ◌+◌, ◌<◌, replicate};
-ghost use Rattle.finite.specs.Search.{first_below};
+ghost use Rattle.finite.specs.Search.{first_below, if_below};
 ghost use Rattle.finite.specs.Lists.{Table};
 ghost use Rattle.model.specs.Limits.{max_agents};
 ghost use Rattle.model.specs.Instance.{cost, owner_of};
@@ -31,11 +31,9 @@ fn add_byte(
     ensures { Table max_agents (total (first + count) (owner_of owners.now) (cost (as_marked sheet.now) i)) sums.new }
 {
     let byte = sheet::row_byte(sheet, m, i, first / 8);
-    let mut j = 0;
-    while j < count {
+    for j in 0..count {
         let owner = given::owner(owners, first + j);
         sums[owner] += given::mark_cost(a, b, sheet::mark_in(byte, j));
-        j += 1;
     }
 }
 
@@ -48,13 +46,12 @@ fn add_costs(sheet: &[u8], owners: &[u8], m: usize, i: usize, sums: &mut [u32; m
 {
     let a = sheet::easy_weight(sheet);
     let b = sheet::difficult_weight(sheet);
-    let mut c = 0;
-    while c + 8 <= m {
-        add_byte(sheet, owners, m, a, b, i, c, 8, sums);
-        c += 8;
+    for k in 0..m / 8 {
+        add_byte(sheet, owners, m, a, b, i, 8 * k, 8, sums);
     }
-    if c < m {
-        add_byte(sheet, owners, m, a, b, i, c, m - c, sums);
+    let rest = m % 8;
+    if rest > 0 {
+        add_byte(sheet, owners, m, a, b, i, m - rest, rest, sums);
     }
 }
 
@@ -68,48 +65,49 @@ fn taken_off(sheet: &[u8], owners: &[u8], m: usize, i: usize, slack: u8) -> u32
     let most = slack as u32;
     let mut held = 0;
     let mut difficult = 0;
-    let mut c = 0;
-    while c < m && difficult < most {
+    for c in 0..m {
+        if difficult == most {
+            break;
+        }
         if given::owner(owners, c) == i {
             held += 1;
             difficult += sheet::mark_at(sheet, m, i, c) as u32;
         }
-        c += 1;
     }
-    let count = if held < most { held } else { most };
+    let count = held.min(most);
     let a = sheet::easy_weight(sheet);
     let b = sheet::difficult_weight(sheet);
     count * a + difficult * (b - a)
 }
 
-// The first agent that agent i envies, n where there is none.
-pub fn first_envied(sheet: &[u8], owners: &[u8], n: usize, m: usize, i: usize, slack: u8) -> usize
+// The first agent that agent i envies.
+pub fn first_envied(
+    sheet: &[u8],
+    owners: &[u8],
+    n: usize,
+    m: usize,
+    i: usize,
+    slack: u8,
+) -> Option<usize>
     requires given { Given sheet.now owners.now n m }
     requires i_lt_n { i < n }
-    ensures { result ≡ first_below n (envies slack (as_marked sheet.now) (owner_of owners.now) i) }
+    ensures { result ≡ if_below n (first_below n (envies slack (as_marked sheet.now) (owner_of owners.now) i)) }
 {
-    let mut sums = totals::zeros();
+    let mut sums = [0; model::MAX_AGENTS];
     add_costs(sheet, owners, m, i, &mut sums);
     let own = sums[i];
     // Nobody's chores would cost i less: nothing need be taken off.
-    if totals::first_below(n, &sums, own) == n {
-        return n;
+    if totals::first_below(n, &sums, own).is_none() {
+        return None;
     }
     let rest = own - taken_off(sheet, owners, m, i, slack);
     totals::first_below(n, &sums, rest)
 }
 
-// The first agent that envies another, n where there is none.
-pub fn first_envier(sheet: &[u8], owners: &[u8], n: usize, m: usize, slack: u8) -> usize
+// The first agent that envies another.
+pub fn first_envier(sheet: &[u8], owners: &[u8], n: usize, m: usize, slack: u8) -> Option<usize>
     requires { Given sheet.now owners.now n m }
-    ensures { result ≡ first_of_pair n (envies slack (as_marked sheet.now) (owner_of owners.now)) }
+    ensures { result ≡ if_below n (first_of_pair n (envies slack (as_marked sheet.now) (owner_of owners.now))) }
 {
-    let mut i = 0;
-    while i < n {
-        if first_envied(sheet, owners, n, m, i, slack) < n {
-            return i;
-        }
-        i += 1;
-    }
-    n
+    (0..n).find(|&i| first_envied(sheet, owners, n, m, i, slack).is_some())
 }

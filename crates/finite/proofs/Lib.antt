@@ -16,6 +16,7 @@ pub mod Sweeps
 pub mod Filled
 pub mod Chosen
 pub mod Running
+pub mod Reduced
 pub mod Reach
 pub mod Distances
 pub mod Bits

@@ -1,6 +1,6 @@
 -- The dearest chore of an agent read off the set of its chores' traits is the dearest.
 -- Assumes nothing.
-use Prim.Native.Nat.{ℕ, ◌-◌, ◌/◌, ◌%◌, ◌^◌, ◌≤◌, ◌<◌}
+use Prim.Native.Nat.{ℕ, ◌-◌, ◌≤◌, ◌<◌}
 use mathlib.Core.Bool.{Bool, true, false, cond, ◌&&◌}
 use mathlib.Core.List.{List}
 use mathlib.Core.Logic.{◌⊎◌, ⊎_elim}
@@ -9,7 +9,7 @@ use native.Mathlib.Nat.{le_antisymm}
 use native.Mathlib.Omega.{arith}
 use lib.Dec.{eqb}
 use lib.ListN.{length, get_or}
-use borrow.Author.Tests.{eq-eqb, ne_eqb, eqb-true, eqb-false}
+use borrow.Author.Tests.{eq-eqb, eqb-true, eqb-false}
 use Rattle.finite.specs.Bits.{bit}
 use Rattle.finite.specs.Lists.{Table}
 use Rattle.finite.specs.Search.{any_below}
@@ -35,26 +35,6 @@ module _ (prices entitled likes : List ℕ) (free grouped mid top : ℕ) where
   pub mid_trait_lem : (c : ℕ) → has_trait prices entitled likes free grouped mid top mid_trait c ≡ eqb (price_of prices c) mid
   unfolding has_trait trait_in price_of
   mid_trait_lem c = refl
-
--- the dearest by cases, as the code tests them
-module _ (word sum low mid top : ℕ) where
-  pub in_top : word / 2 ^ top_trait % 2 ≡ 1 → dearest_in word sum low mid top ≡ top
-  unfolding dearest_in bit
-  in_top e = rw e
-
-  module _ (no_top : word / 2 ^ top_trait % 2 ≡ 1 → ⊥) where
-    pub in_mid : word / 2 ^ mid_trait % 2 ≡ 1 → dearest_in word sum low mid top ≡ mid
-    unfolding dearest_in bit
-    in_mid e = rw (ne_eqb _ 1 no_top, e)
-
-    module _ (no_mid : word / 2 ^ mid_trait % 2 ≡ 1 → ⊥) where
-      pub in_none : sum ≡ 0 → dearest_in word sum low mid top ≡ 0
-      unfolding dearest_in bit
-      in_none e = rw (ne_eqb _ 1 no_top, ne_eqb _ 1 no_mid, e)
-
-      pub in_low : (sum ≡ 0 → ⊥) → dearest_in word sum low mid top ≡ low
-      unfolding dearest_in bit
-      in_low some = rw (ne_eqb _ 1 no_top, ne_eqb _ 1 no_mid, ne_eqb sum 0 some)
 
 -- a set with a bit that says whether some chore of a price is owned
 module _ (m : ℕ) (own : ℕ → Bool) (p : ℕ → ℕ) {v : ℕ} {b : Bool} (e : b ≡ any_below m (λ c. own c && eqb (p c) v)) where

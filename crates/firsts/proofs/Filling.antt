@@ -2,12 +2,13 @@
 -- Assumes nothing.
 use Prim.Native.Nat.{ℕ, ◌+◌, ◌*◌, ◌≤◌, ◌<◌}
 use mathlib.Core.Bool.{Bool, false, ◌&&◌, ◌||◌, or-false}
-use mathlib.Core.List.{List}
+use mathlib.Core.List.{List, ◌++◌}
 use mathlib.Core.Path.{◌≡◌, sym, ap, ◌∙◌}
 use native.Mathlib.Omega.{arith}
 use lib.Bits.{bit_or}
 use lib.Dec.{eqb, ltb}
-use lib.ListN.{get_or}
+use lib.ListN.{length, get_or, take, drop, replicate}
+use Rattle.std.proofs.lemmas.List.{length-append, length-take-le, length-drop, length-replicate, get_or-replicate, get_or_append_left}
 use borrow.Author.Tests.{eq-eqb, ne_eqb, lt-ltb, le-ltb}
 use Rattle.finite.specs.Bits.{SetOf}
 use Rattle.finite.proofs.Tests.{and_intro, and_no_left, and_no_right, or_right, eqb_same}
@@ -17,7 +18,7 @@ use Rattle.finite.proofs.Search.{any_none_intro, first_none_intro}
 use Rattle.model.specs.Limits.{max_agents}
 use Rattle.model.specs.Fairness.{owns}
 use Rattle.firsts.specs.Traits.{trait_count}
-use Rattle.firsts.specs.Table.{Row, Sized, Firsts, Cleared, Gained}
+use Rattle.firsts.specs.Table.{Row, Sized, Firsts, Gained}
 use Rattle.firsts.proofs.AgentRow.{row_cong, row_gained, gained_sets, gained-other, gained-nothing}
 
 -- the rows of n agents, of the chores before c
@@ -25,15 +26,30 @@ pub record Filled (n m : ℕ) (x : ℕ → ℕ) (trait : ℕ → ℕ → Bool) (
   pub sized : Sized first sets
   pub row : (v : ℕ) → v < n → Row m (λ d. ltb d c && owns x v d) trait v first sets
 
+-- a list of which the first k entries have been filled with y
+abbrev fill : ℕ → ℕ → List ℕ → List ℕ
+fill k y xs = replicate (length (take k xs)) y ++ drop k xs
+
+module _ {k : ℕ} (y : ℕ) (xs : List ℕ) (le : k ≤ length xs) where
+  fill_length : length (fill k y xs) ≡ length xs
+  fill_length = simp (length-append, length-replicate, length-take-le, length-drop) (omega arith)
+
+  fill_at : (i : ℕ) → i < k → get_or (fill k y xs) i 0 ≡ y
+  fill_at i l =
+      rw (length-take-le k xs le) (get_or_append_left (replicate k y) (drop k xs) 0 i (omega (arith, length-replicate k y)) ∙ get_or-replicate k i y 0 l)
+
 module _ {n m : ℕ} (x : ℕ → ℕ) (trait : ℕ → ℕ → Bool) where
-  pub filled_none : {first₀ sets₀ first sets : List ℕ} → Sized first₀ sets₀ → Cleared (n * trait_count) m first₀ first → Cleared n 0 sets₀ sets → Filled n m x trait 0 first sets
-  filled_none z e s =
+  -- no chore has been passed: m stands for none in the rows of n agents, and their sets are empty
+  pub filled_none : (first sets : List ℕ) → Sized first sets → n ≤ max_agents → Filled n m x trait 0 (fill (n * trait_count) m first) (fill n 0 sets)
+  filled_none first sets z few =
+      let rows : n * trait_count ≤ length first = omega (arith, z.first_sized) in
+      let some : n ≤ length sets = omega (arith, z.sets_sized) in
       record {
-        sized = record { first_sized = e.size ∙ z.first_sized; sets_sized = s.size ∙ z.sets_sized };
+        sized = record { first_sized = fill_length m first rows ∙ z.first_sized; sets_sized = fill_length 0 sets some ∙ z.sets_sized };
         row = λ v l.
             record {
-              entry = λ t h. e.entry (v * trait_count + t) (omega arith) ∙ sym (first_none_intro m _ (λ d _. none v t d));
-              some = rw (s.entry v l) (set_cong (λ t _. sym (any_none_intro m _ (λ d _. none v t d))) (set_none trait_count));
+              entry = λ t h. fill_at m first rows (v * trait_count + t) (omega arith) ∙ sym (first_none_intro m _ (λ d _. none v t d));
+              some = rw (fill_at 0 sets some v l) (set_cong (λ t _. sym (any_none_intro m _ (λ d _. none v t d))) (set_none trait_count));
             };
       }
     where

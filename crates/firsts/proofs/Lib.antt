@@ -1,4 +1,3 @@
-pub mod Clearing
 pub mod Held
 pub mod AgentRow
 pub mod Filling
@@ -7,4 +6,4 @@ pub mod Losing
 pub mod Handing
 pub mod Placing
 pub mod DearestIn
-pub mod ByArithmetic
+pub mod Keeping

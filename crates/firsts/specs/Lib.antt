@@ -1,3 +1,4 @@
+pub mod Bits
 pub mod Traits
 pub mod Table
 pub mod Dearest

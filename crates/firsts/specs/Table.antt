@@ -55,11 +55,6 @@ pub record Gained (w c word : ℕ) (first sets first' sets' : List ℕ) : Type 0
       → get_or first' (v * trait_count + t) 0 ≡ cond (eqb v w && bit word t) (min c (get_or first (v * trait_count + t) 0)) (get_or first (v * trait_count + t) 0)
   pub some : sets' ≡ set sets w (bit_or (get_or sets w 0) word)
 
--- the first k entries have one value
-pub record Cleared (k value : ℕ) (xs xs' : List ℕ) : Type 0 where
-  pub size : length xs' ≡ length xs
-  pub entry : (i : ℕ) → i < k → get_or xs' i 0 ≡ value
-
 -- the first of agent w's chores after c that has trait t, of m
 unfoldable pub first_after : ℕ → (ℕ → ℕ) → (ℕ → ℕ → Bool) → ℕ → ℕ → ℕ → ℕ
 first_after m x trait w c t = first_below m (λ d. ltb c d && (owns x w d && trait t d))

@@ -5,6 +5,7 @@ ghost use Rattle.firsts.specs.Dearest.{dearest_in, Weighing, Weighed};
 use crate::traits::{MID, TOP, View};
 
 // The sum without the dearest chore of an agent whose chores have these traits.
+#[tactic(auto, unfolding(crate::specs::Dearest::dearest_in, finite::specs::Bits::bit))]
 fn rest(sum: u32, traits: u64, view: View) -> u32
     requires { dearest_in traits sum view.low view.mid view.top ≤ sum }
     ensures { result ≡ sum - dearest_in traits sum view.low view.mid view.top }
@@ -26,9 +27,7 @@ pub fn rests(n: usize, sums: &[u32], sets: &[u64], view: View, ups: &mut [u32; m
     requires { Weighing n sums.now sets.now ups.old view.low view.mid view.top }
     ensures { Weighed n sums.now sets.now ups.new view.low view.mid view.top }
 {
-    let mut i = 0;
-    while i < n {
+    for i in 0..n {
         ups[i] = rest(sums[i], sets[i], view);
-        i += 1;
     }
 }

@@ -1,11 +1,35 @@
-// The rows of the table, a place for each trait. A set of traits is the bits of a word, which are gone through from the lowest on.
-ghost use Rattle.std.specs.Prelude.{◌+◌, ◌*◌, ◌≤◌, min, cond, ◌&&◌, ◌≡◌, leb, length, get_or};
+// The rows of the table, a place for each trait. A set of traits is the bits of a word.
+ghost use Rattle.std.specs.Prelude.{MatchOption, ◌+◌, ◌*◌, ◌≤◌, min, cond, ◌&&◌, ◌≡◌, leb, length, get_or};
+ghost use Rattle.std.specs.Iterator.{at_most};
 ghost use Rattle.finite.specs.Bits.{bit, SetOf};
 ghost use Rattle.model.specs.Limits.{max_agents, max_chores};
 ghost use Rattle.firsts.specs.Traits.{trait_count};
+ghost use Rattle.firsts.specs.Bits.{NextBit};
 ghost use Rattle.firsts.specs.Table.{Spot, Put, Gained};
 
 use crate::traits::TRAITS;
+
+// The bits of a word that are still to come, the lowest first.
+#[derive(Drop)]
+struct Bits(u64);
+
+impl Iterator for Bits {
+    type Item = usize;
+
+    ghost next_gives = { λ old r new. MatchOption r ((old.0 ≡ 0) × (new.0 ≡ 0)) (λ t. NextBit old.0 t new.0) };
+
+    ghost remaining = { λ s. at_most s.0 };
+
+    #[inline(always)]
+    fn next(&mut self) -> Option<usize> {
+        if self.0 == 0 {
+            return None;
+        }
+        let t = self.0.trailing_zeros() as usize;
+        self.0 &= self.0 - 1;
+        Some(t)
+    }
+}
 
 // 1 where chore d is not before chore c, else 0. By arithmetic, since a test would often be guessed wrong.
 fn late(d: u16, c: usize) -> u64
@@ -21,11 +45,8 @@ pub fn not_before(first: &[u16], w: usize, c: usize, word: u64) -> u64
     ensures { SetOf trait_count result (λ t. bit word t && leb c (get_or first.now (w * trait_count + t) 0)) }
 {
     let mut found = 0u64;
-    let mut rest = word;
-    while rest != 0 {
-        let t = u64::trailing_zeros(rest) as usize;
-        found = found | (late(first[w * TRAITS + t], c) << t);
-        rest = rest & (rest - 1);
+    for t in Bits(word) {
+        found |= late(first[w * TRAITS + t], c) << t;
     }
     found
 }
@@ -35,11 +56,8 @@ pub fn put(first: &mut [u16], w: usize, c: usize, word: u64)
     requires { Spot first.old w word × (c ≤ max_chores) }
     ensures { Put w c word first.old first.new }
 {
-    let mut rest = word;
-    while rest != 0 {
-        let t = u64::trailing_zeros(rest) as usize;
+    for t in Bits(word) {
         first[w * TRAITS + t] = c as u16;
-        rest = rest & (rest - 1);
     }
 }
 
@@ -57,11 +75,8 @@ pub fn gain(first: &mut [u16], sets: &mut [u64], w: usize, c: usize, word: u64)
     requires { Spot first.old w word × (c ≤ max_chores) × (length sets.old ≡ max_agents) }
     ensures { Gained w c word first.old sets.old first.new sets.new }
 {
-    let mut rest = word;
-    while rest != 0 {
-        let t = u64::trailing_zeros(rest) as usize;
+    for t in Bits(word) {
         first[w * TRAITS + t] = earlier(c, first[w * TRAITS + t]);
-        rest = rest & (rest - 1);
     }
-    sets[w] = sets[w] | word;
+    sets[w] |= word;
 }

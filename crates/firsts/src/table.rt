@@ -4,34 +4,10 @@ ghost use Rattle.finite.specs.Bits.{SetOf};
 ghost use Rattle.model.specs.Limits.{max_agents, max_chores};
 ghost use Rattle.model.specs.Instance.{owner_of};
 ghost use Rattle.firsts.specs.Traits.{trait_count, has_trait};
-ghost use Rattle.firsts.specs.Table.{Sized, Spot, Firsts, Listed, Cleared, SearchedOn, Lost, HandedOn};
+ghost use Rattle.firsts.specs.Table.{Sized, Spot, Firsts, Listed, SearchedOn, Lost, HandedOn};
 
 use crate::rows::{gain, not_before, put};
 use crate::traits::{TRAITS, View, traits};
-
-// In the rows of n agents no trait has a chore: m stands for none.
-fn clear_firsts(n: usize, m: usize, first: &mut [u16])
-    requires { (n * trait_count ≤ length first.old) × (n ≤ max_agents) × (m ≤ max_chores) }
-    ensures { Cleared (n * trait_count) m first.old first.new }
-{
-    let none = m as u16;
-    let mut i = 0;
-    while i < n * TRAITS {
-        first[i] = none;
-        i += 1;
-    }
-}
-
-fn clear_sets(n: usize, sets: &mut [u64])
-    requires { n ≤ length sets.old }
-    ensures { Cleared n 0 sets.old sets.new }
-{
-    let mut w = 0;
-    while w < n {
-        sets[w] = 0;
-        w += 1;
-    }
-}
 
 // In one pass over the chores: each agent's first chore of each trait.
 pub fn fill(
@@ -47,16 +23,15 @@ pub fn fill(
     requires { Listed n owners.now prices.now entitled.now likes.now × Sized first.old sets.old }
     ensures { Firsts n (length owners.now) (owner_of owners.now) (has_trait prices.now entitled.now likes.now view.free view.grouped view.mid view.top) first.new sets.new }
 {
-    clear_firsts(n, owners.len(), first);
-    clear_sets(n, sets);
-    let mut c = 0;
-    while c < owners.len() {
+    // No trait has a chore yet, for which the number of chores stands.
+    first[..n * TRAITS].fill(owners.len() as u16);
+    sets[..n].fill(0);
+    for c in 0..owners.len() {
         let w = owners[c] as usize - 1;
         let word = traits(prices[c], entitled[c], likes[c], view);
         if sets[w] | word != sets[w] {
             gain(first, sets, w, c, word);
         }
-        c += 1;
     }
 }
 
@@ -76,14 +51,15 @@ fn search_on(
     ensures { SearchedOn (length owners.now) (owner_of owners.now) (has_trait prices.now entitled.now likes.now view.free view.grouped view.mid view.top) w c missing result first.old first.new }
 {
     let mut left = missing;
-    let mut k = c + 1;
-    while left != 0 && k < owners.len() {
+    for k in c + 1..owners.len() {
+        if left == 0 {
+            break;
+        }
         if owners[k] as usize - 1 == w {
             let found = left & traits(prices[k], entitled[k], likes[k], view);
             put(first, w, k, found);
-            left = left ^ found;
+            left ^= found;
         }
-        k += 1;
     }
     left
 }
@@ -108,7 +84,7 @@ fn lose(
     let missing = not_before(first, w, c, word);
     let left = search_on(owners, prices, entitled, likes, view, first, w, c, missing);
     put(first, w, owners.len(), left);
-    sets[w] = sets[w] ^ left;
+    sets[w] ^= left;
 }
 
 // The chore goes from its owner to agent u, in the list and in the table.

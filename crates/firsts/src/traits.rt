@@ -23,6 +23,7 @@ pub struct View {
 }
 
 // Who wants a chore: members of a group want every chore that is not entitled.
+#[tactic(auto, unfolding(crate::specs::Traits::wanting_word))]
 fn wanting(likes: u32, entitled: u8, view: View) -> u32
     ensures { result ≡ wanting_word likes (eqb entitled 1) view.free view.grouped }
 {
@@ -39,13 +40,13 @@ pub fn traits(price: u32, entitled: u8, likes: u32, view: View) -> u64
 {
     let mut word = wanting(likes, entitled, view) as u64;
     if entitled != 1 {
-        word = word | (1u64 << FREE);
+        word |= 1 << FREE;
     }
     if price == view.top {
-        word = word | (1u64 << TOP);
+        word |= 1 << TOP;
     }
     if price == view.mid {
-        word = word | (1u64 << MID);
+        word |= 1 << MID;
     }
     word
 }

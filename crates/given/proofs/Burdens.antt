@@ -3,12 +3,11 @@
 use Prim.Native.Nat.{ℕ, ◌≤◌, ◌<◌}
 use mathlib.Core.Bool.{true, false, cond, not, ◌&&◌}
 use mathlib.Core.List.{List}
-use mathlib.Core.Path.{◌≡◌, sym, ◌∙◌}
-use lib.Dec.{ltb}
-use borrow.Author.Tests.{lt-ltb, le-ltb, not-true}
-use Rattle.finite.specs.Search.{first_below}
+use mathlib.Core.Path.{◌≡◌, sym, ap, ◌∙◌}
+use borrow.Author.Tests.{not-true}
+use Rattle.std.specs.Prelude.{Option, is_some}
+use Rattle.finite.specs.Search.{any_below, first_below, if_below}
 use Rattle.finite.proofs.Tests.{by_test, and_elim, and_intro, and_no_left, and_no_right, not_on, not_off}
-use Rattle.finite.proofs.Search.{any_first}
 use Rattle.model.specs.Instance.{owner_of}
 use Rattle.model.specs.Sheet.{is_difficult, marks_easy, as_marked}
 use Rattle.model.specs.Fairness.{owns}
@@ -16,6 +15,7 @@ use Rattle.welfare.specs.Waste.{burdened}
 use Rattle.welfare.proofs.Costs.{owned, owned_by, owned_not}
 use Rattle.given.specs.Given.{Given}
 use Rattle.given.specs.Burdens.{burdens}
+use Rattle.given.proofs.Found.{any_found}
 
 module _ (s owners : List ℕ) (i c : ℕ) where
   pub burdens_hit : owner_of owners c ≡ i → marks_easy s i c ≡ false → burdens s owners i c ≡ true
@@ -45,15 +45,11 @@ module _ (s owners : List ℕ) (i c : ℕ) where
       (λ h. burdens_easy (not_on h) ∙ sym h)
 
 module _ {s owners : List ℕ} {n m : ℕ} (g : Given s owners n m) where
-  -- an agent is burdened where the search for a burden finds one
-  pub burdened_search : (i : ℕ) → burdened (as_marked s) (owner_of owners) i ≡ ltb (first_below m (burdens s owners i)) m
+  -- an agent is burdened where some chore burdens it
+  pub burdened_any : (i : ℕ) → burdened (as_marked s) (owner_of owners) i ≡ any_below m (burdens s owners i)
   unfolding burdened as_marked burdens
-  burdened_search i =
-      rw (← g.chores) (any_first m (λ c. owns (owner_of owners) i c && not (marks_easy s i c)))
+  burdened_any i = rw g.chores
 
-  module _ (i : ℕ) {r : ℕ} (e : r ≡ first_below m (burdens s owners i)) where
-    pub found_burden {ℓ} : {A : Type ℓ} (x y : A) → r < m → cond (burdened (as_marked s) (owner_of owners) i) x y ≡ x
-    found_burden x y l = rw (burdened_search, ← e, lt-ltb r m l)
-
-    pub no_burden {ℓ} : {A : Type ℓ} (x y : A) → m ≤ r → cond (burdened (as_marked s) (owner_of owners) i) x y ≡ y
-    no_burden x y l = rw (burdened_search, ← e, le-ltb r m l)
+  -- so where the search for one finds it
+  pub burdened_found : (i : ℕ) {r : Option ℕ} → r ≡ if_below m (first_below m (burdens s owners i)) → is_some r ≡ burdened (as_marked s) (owner_of owners) i
+  burdened_found i e = ap is_some e ∙ any_found m (burdens s owners i) ∙ sym (burdened_any i)

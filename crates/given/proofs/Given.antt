@@ -23,46 +23,6 @@ use Rattle.sheet.proofs.Judged.{owners_picks}
 use Rattle.sheet.proofs.Refusal.{valid}
 use Rattle.given.specs.Given.{given_refusal, Given, Weighed, Owned}
 
--- entries from 1 to a limit: what one more entry adds, and what one entry out of range spoils
-
-pub range_zero : (n : ℕ) (owners : List ℕ) → entries_in_range n 0 owners ≡ true
-unfolding entries_in_range
-range_zero n owners = all_zero _
-
-module _ (n : ℕ) (owners : List ℕ) (c : ℕ) where
-  inside : ℕ → Bool
-  inside k = not (out_of_range n (get_or owners k 0))
-
-  pub range_next : entries_in_range n c owners ≡ true → (get_or owners c 0 ≡ 0 → ⊥) → get_or owners c 0 ≤ n → entries_in_range n (c + 1) owners ≡ true
-  unfolding entries_in_range inside
-  range_next e some fits =
-      all_next c inside ∙ and_intro e (not_on (in_range n (get_or owners c 0) (omega arith) fits))
-
-  pub range_none : {m : ℕ} → c < m → get_or owners c 0 ≡ 0 → entries_in_range n m owners ≡ false
-  unfolding entries_in_range inside
-  range_none l e =
-      all_fails_intro inside c l (not_off (or_left (ltb n (get_or owners c 0)) (eq-eqb (get_or owners c 0) 0 e)))
-
-  pub range-above : {m : ℕ} → c < m → n < get_or owners c 0 → entries_in_range n m owners ≡ false
-  unfolding entries_in_range inside
-  range-above l h =
-      all_fails_intro inside c l (not_off (or_right (eqb (get_or owners c 0) 0) (lt-ltb n (get_or owners c 0) h)))
-
--- the refusals of a list of owners
-module _ (n m : ℕ) (owners : List ℕ) where
-  pub refused_size : (length owners ≡ m → ⊥) → owners_refusal n m owners ≡ 6
-  unfolding owners_refusal ◌or_else◌
-  refused_size h = rw (ne_eqb (length owners) m h)
-
-  module _ (size : length owners ≡ m) where
-    pub refused_range : entries_in_range n m owners ≡ false → owners_refusal n m owners ≡ 7
-    unfolding owners_refusal ◌or_else◌
-    refused_range e = rw (eq-eqb (length owners) m size, e)
-
-    pub owners_fine : entries_in_range n m owners ≡ true → owners_refusal n m owners ≡ 0
-    unfolding owners_refusal ◌or_else◌
-    owners_fine e = rw (eq-eqb (length owners) m size, e)
-
 -- a list of owners on a sheet
 pub picks_given : {s owners : List ℕ} {n m : ℕ} → Valid s → n ≡ agents_of s → m ≡ chores_of s → Picks (agents_of s) (chores_of s) owners → Given s owners n m
 picks_given {s} {owners} {n} {m} ok agents chores p =

@@ -3,7 +3,7 @@
 #![tactic(auto)]
 
 ghost use Rattle.std.specs.Prelude.{◌≡◌, ◌<◌, cond, eqb};
-ghost use Rattle.finite.specs.Search.{first_below};
+ghost use Rattle.finite.specs.Search.{first_below, if_below};
 ghost use Rattle.model.specs.Instance.{owner_of};
 ghost use Rattle.model.specs.Sheet.{agents_of};
 ghost use Rattle.model.specs.RefusalNumbers.{number_of};
@@ -54,20 +54,11 @@ pub fn mark_cost(a: u32, b: u32, mark: u8) -> u32
     a + (b - a) * mark as u32
 }
 
-// The first chore of agent i that is difficult for it, m where there is none.
-pub fn first_burden(sheet: &[u8], owners: &[u8], m: usize, i: usize) -> usize
+// The first chore of agent i that is difficult for it.
+pub fn first_burden(sheet: &[u8], owners: &[u8], m: usize, i: usize) -> Option<usize>
     requires given { Given sheet.now owners.now (agents_of sheet.now) m }
     requires i_bound { i < agents_of sheet.now }
-    ensures { result ≡ first_below m (burdens sheet.now owners.now i) }
+    ensures { result ≡ if_below m (first_below m (burdens sheet.now owners.now i)) }
 {
-    let mut c = 0;
-    while c < m {
-        if owner(owners, c) == i {
-            if !sheet::marks_easy(sheet, m, i, c) {
-                return c;
-            }
-        }
-        c += 1;
-    }
-    m
+    (0..m).find(|&c| owner(owners, c) == i && !sheet::marks_easy(sheet, m, i, c))
 }

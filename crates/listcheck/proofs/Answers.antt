@@ -16,7 +16,10 @@ use Rattle.model.specs.Refusals.{◌or_else◌, lent_refusal, slack_refusal, lis
 use Rattle.model.specs.Replies.{refused, holds, unfair, wasteful, list_reply}
 use Rattle.model.specs.Verdicts.{envies, first_of_pair, second_of_pair, unless_refused, list_verdict, list_check}
 use Rattle.model.specs.Promises.{Dominating, ListChecked}
+use Rattle.std.specs.Prelude.{Result, Ok}
+use Rattle.model.specs.declared.Refusal.{Refusal}
 use Rattle.model.specs.declared.ListVerdict.{ListVerdict}
+use Rattle.model.proofs.Refusing.{Left}
 use Rattle.model.proofs.Pairs.{FirstPair, pair_found, pair_none_elim}
 use Rattle.sheet.proofs.OrElse.{or_else_zero, or_else_none, or_else_assoc}
 use Rattle.sheet.proofs.Refusal.{lent_room, slack_ok}
@@ -78,7 +81,7 @@ holds_larger s owners slack lent h t more few =
     let both = not_refused_lem (list_refusal s owners slack lent) (list_verdict slack (as_marked s) (owner_of owners)) refused_holds h in
     check_judged s owners t lent (fine_slack s owners slack lent both.0 t few) ∙ verdict_larger (as_marked s) (owner_of owners) slack t more both.1
 
-module _ {s owners : List ℕ} {slack : ℕ} {lent : List ℕ} {r : ListVerdict} where
+module _ {s owners : List ℕ} {slack : ℕ} {lent : List ℕ} {r : Result ListVerdict Refusal} where
   -- every answer but one leaves the lent list as it is
   pub checked : list_reply r ≡ list_check s owners slack (length lent) → (list_reply r ≡ wasteful → ⊥) → ListChecked s owners slack lent lent r
   checked e other =
@@ -89,7 +92,10 @@ module _ {s owners : List ℕ} {slack : ℕ} {lent : List ℕ} {r : ListVerdict}
         larger = λ h. holds_larger s owners slack (length lent) (sym e ∙ h);
       }
 
-pub checked_wasteful : {s owners : List ℕ} {slack : ℕ} {lent lent' : List ℕ} → wasteful ≡ list_check s owners slack (length lent) → Dominating s owners lent lent' → ListChecked s owners slack lent lent' ListVerdict.Wasteful
+  pub not_checked : Left r (list_refusal s owners slack (length lent)) → ListChecked s owners slack lent lent r
+  not_checked L = let p = L.positive in rw L.is (checked (check_refused s owners slack (length lent) L.number (λ z. omega (arith, z, p, L.number))) (refused_other _))
+
+pub checked_wasteful : {s owners : List ℕ} {slack : ℕ} {lent lent' : List ℕ} → wasteful ≡ list_check s owners slack (length lent) → Dominating s owners lent lent' → ListChecked s owners slack lent lent' (Ok ListVerdict.Wasteful)
 checked_wasteful e d = record { answer = e; shown = λ _. d; kept = λ h. absurd (h (sym e)); larger = λ h. absurd (holds_other (sym h)) }
 
 module _ {s owners : List ℕ} {n m : ℕ} (g : Given s owners n m) (slack : ℕ) where

@@ -19,13 +19,11 @@ pub fn cut_prices(
     requires { Cutting owners.now prices.old entitled.old a b }
     ensures { CutPrices owners.now prices.old entitled.old prices.new entitled.new reached a b }
 {
-    let mut c = 0;
-    while c < owners.len() {
-        if has(reached, owners[c] as usize - 1) {
+    for (c, &owner) in owners.iter().enumerate() {
+        if has(reached, owner as usize - 1) {
             prices[c] = prices[c] * a / b;
             entitled[c] = 1;
         }
-        c += 1;
     }
 }
 
@@ -34,11 +32,9 @@ pub fn cut_groups(groups: &mut [u8], reached: u32, number: u8)
     requires { length groups.old ≤ max_agents }
     ensures { groups.new ≡ tabulate (length groups.old) (λ i. cond (bit reached i) number (get_or groups.old i 0)) }
 {
-    let mut i = 0;
-    while i < groups.len() {
+    for (i, group) in groups.iter_mut().enumerate() {
         if has(reached, i) {
-            groups[i] = number;
+            *group = number;
         }
-        i += 1;
     }
 }

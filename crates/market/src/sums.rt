@@ -11,29 +11,14 @@ pub fn least_of(n: usize, sums: &[u32]) -> u32
     requires { (0 < n) × (n ≤ length sums.now) }
     ensures { result ≡ min_to n (λ i. get_or sums.now i 0) }
 {
-    let mut least = sums[0];
-    let mut i = 1;
-    while i < n {
-        if sums[i] < least {
-            least = sums[i];
-        }
-        i += 1;
-    }
-    least
+    sums[..n].iter().copied().min().unwrap()
 }
 
 pub fn any_above(n: usize, ups: &[u32], least: u32) -> bool
     requires { n ≤ length ups.now }
     ensures { result ≡ any_below n (λ i. ltb least (get_or ups.now i 0)) }
 {
-    let mut i = 0;
-    while i < n {
-        if ups[i] > least {
-            return true;
-        }
-        i += 1;
-    }
-    false
+    (0..n).any(|i| ups[i] > least)
 }
 
 // The agents in no group, and those in some group.
@@ -49,14 +34,12 @@ pub fn by_group(groups: &[u8]) -> Sides
 {
     let mut free = 0u32;
     let mut grouped = 0u32;
-    let mut i = 0;
-    while i < groups.len() {
-        if groups[i] == 0 {
+    for (i, &group) in groups.iter().enumerate() {
+        if group == 0 {
             free = with(free, i);
         } else {
             grouped = with(grouped, i);
         }
-        i += 1;
     }
     Sides { free, grouped }
 }

@@ -2,7 +2,7 @@
 ghost use Rattle.std.specs.Prelude.{◌≡◌, ◌≤◌, ◌<◌, ◌^◌, cond, eqb};
 ghost use Rattle.std.specs.Int.Bits.{bit_or};
 ghost use Rattle.finite.specs.Bits.{bit};
-ghost use Rattle.finite.specs.Search.{first_below};
+ghost use Rattle.finite.specs.Search.{first_below, if_below};
 ghost use Rattle.model.specs.Limits.{max_agents};
 
 pub fn has(w: u32, i: usize) -> bool
@@ -28,14 +28,11 @@ pub fn with_easy(w: u32, i: usize, mark: u8) -> u32
     if mark == 1 { w } else { with(w, i) }
 }
 
-// The lowest agent of the set, n where it is empty.
-pub fn lowest(w: u32, n: usize) -> usize
+// The lowest agent of the set, if there is one.
+pub fn lowest(w: u32, n: usize) -> Option<usize>
     requires { n ≤ max_agents }
-    ensures { result ≡ first_below n (λ i. bit w i) }
+    ensures { result ≡ if_below n (first_below n (λ i. bit w i)) }
 {
-    let t = u32::trailing_zeros(w) as usize;
-    if t < n {
-        return t;
-    }
-    n
+    let t = w.trailing_zeros() as usize;
+    (t < n).then_some(t)
 }

@@ -2,10 +2,13 @@
 #![tactic(auto)]
 
 ghost use Rattle.std.specs.Prelude.{◌≡◌, length};
+ghost use Rattle.model.specs.RefusalNumbers.{number_of};
 ghost use Rattle.model.specs.Promises.{MeasuredList};
 ghost use Rattle.placing.specs.Sheets.{MeasuredSheet};
 ghost use Rattle.given.specs.Given.{Given};
 ghost use Rattle.measuredlist.specs.Improving.{Improved, Respected};
+
+use model::Refusal;
 
 // While another list dominates, it takes the place of the one at hand. Each costs less in total than the one before, so this ends.
 fn improve(sheet: &[u8], n: usize, m: usize, owners: &mut [u8])
@@ -30,21 +33,14 @@ fn respect(sheet: &[u8], n: usize, m: usize, measures: &[u32; model::MAX_AGENTS]
     improve(sheet, n, m, owners);
 }
 
-// The refusal number or 0. Which list is written is free: nobody's chores cost more than its measure, and no list dominates it.
-pub fn measured_list(sheet: &[u8], owners: &mut [u8]) -> u8
-    ensures { MeasuredList sheet.now owners.old owners.new result }
+// Which list is written is free: nobody's chores cost more than its measure, and no list dominates it.
+pub fn measured_list(sheet: &[u8], owners: &mut [u8]) -> Result<(), Refusal>
+    ensures { MeasuredList sheet.now owners.old owners.new (number_of result) }
 {
-    let own = measures::measures(sheet);
-    if own.refusal != 0 {
-        return own.refusal;
-    }
+    let numbers = measures::measures(sheet)?;
     let n = sheet::agents(sheet);
     let m = sheet::chores(sheet);
-    let refusal = sheet::lent_refusal(m, owners.len());
-    if refusal != 0 {
-        return refusal;
-    }
-    let numbers = own.numbers;
+    sheet::admit_lent(m, owners.len())?;
     respect(sheet, n, m, &numbers, &mut owners[0..m]);
-    0
+    Ok(())
 }

@@ -12,7 +12,6 @@ use lib.Seq.{take_all}
 use borrow.Author.Tests.{eqb-true, eq-eqb, ne_eqb, not-false}
 use Rattle.finite.proofs.Tests.{cond_true, cond_false}
 use Rattle.finite.proofs.Lists.{tab_length, tab_at}
-use Rattle.model.specs.declared.Measures.{Measures}
 use Rattle.model.specs.Sheet.{agents_of, easy_weight, difficult_weight, as_marked}
 use Rattle.model.specs.MaximinShare.{maximin_share, measures_of}
 use Rattle.model.specs.Refusals.{sheet_refusal, multiple_refusal, measures_refusal}
@@ -54,7 +53,7 @@ module _ (s : List ℕ) where
   whole_at before whole i l =
       ap (λ xs. get_or xs i 0) whole ∙ get_or-append (measures_of s) (drop (agents_of s) before) 0 i (rw measures_long l) ∙ measures_at i l
 
-  pub measured_at : (before : List ℕ) {r : Measures} → Measured s before r → r.refusal ≡ 0 → (i : ℕ) → i < agents_of s → get_or r.numbers i 0 ≡ maximin_share (as_marked s) i
+  pub measured_at : (before : List ℕ) {refusal : ℕ} {numbers : List ℕ} → Measured s before refusal numbers → refusal ≡ 0 → (i : ℕ) → i < agents_of s → get_or numbers i 0 ≡ maximin_share (as_marked s) i
   unfolding measures_over
   measured_at before M none =
       let z : measures_refusal s ≡ 0 = sym M.answer ∙ none in
@@ -65,20 +64,20 @@ module _ (s : List ℕ) where
   unfolding measures_over
   over_refused before some = cond_false _ before (ne_eqb (measures_refusal s) 0 some)
 
-  module _ (before : List ℕ) {r : Measures} (answer : r.refusal ≡ measures_refusal s) where
-    pub turned_down : (r.refusal ≡ 0 → ⊥) → r.numbers ≡ before → Measured s before r
-    turned_down some kept =
+  module _ (before : List ℕ) {refusal : ℕ} (answer : refusal ≡ measures_refusal s) where
+    pub turned_down : (refusal ≡ 0 → ⊥) → Measured s before refusal before
+    turned_down some =
         record {
           answer = answer;
-          numbers = kept ∙ sym (over_refused before (λ e. some (answer ∙ e)));
+          numbers = sym (over_refused before (λ e. some (answer ∙ e)));
           secured = λ e. absurd (some e);
         }
 
-    pub told : {n : ℕ} → r.refusal ≡ 0 → n ≡ agents_of s → r.numbers ≡ take n (measures_of s) ++ drop n before → Measured s before r
+    pub told : {n : ℕ} {numbers : List ℕ} → refusal ≡ 0 → n ≡ agents_of s → numbers ≡ take n (measures_of s) ++ drop n before → Measured s before refusal numbers
     unfolding measures_over
-    told {n} none agents written =
+    told {n} {numbers} none agents written =
         let z : measures_refusal s ≡ 0 = sym answer ∙ none in
-        let whole : r.numbers ≡ measures_of s ++ drop (agents_of s) before = rw (written, agents, take_all (agents_of s) (measures_of s) (le_of_eq measures_long)) in
+        let whole : numbers ≡ measures_of s ++ drop (agents_of s) before = rw (written, agents, take_all (agents_of s) (measures_of s) (le_of_eq measures_long)) in
         record {
           answer = answer;
           numbers = whole ∙ sym (cond_true (measures_of s ++ drop (agents_of s) before) before (eq-eqb (measures_refusal s) 0 z));

@@ -2,14 +2,17 @@
 // that costs least so far. Only what the bundles cost is kept.
 #![tactic(auto)]
 
-ghost use Rattle.std.specs.Prelude.{◌≡◌, ◌≤◌, ◌<◌, get_or, replicate};
+ghost use Rattle.std.specs.Prelude.{◌≡◌, ◌≤◌, ◌<◌, MatchResult, get_or, replicate};
 ghost use Rattle.finite.specs.Sums.{max_to};
 ghost use Rattle.model.specs.Limits.{max_agents};
 ghost use Rattle.model.specs.Sheet.{as_marked};
 ghost use Rattle.model.specs.MaximinShare.{maximin_share};
+ghost use Rattle.model.specs.RefusalNumbers.{refusal_number, number_of};
 ghost use Rattle.model.specs.Refusals.{measures_refusal};
 ghost use Rattle.model.specs.Promises.{Measured};
 ghost use Rattle.measures.specs.Dealing.{cheapest, dealt_on, Dealing, LevelDealt, Measurable};
+
+use model::Refusal;
 
 // One chore for each bundle that costs `least`, in their order, while there are chores left: each of them is the cheapest when its turn comes.
 // Returns how many are left.
@@ -25,13 +28,14 @@ fn deal_level(
     ensures { LevelDealt n weight count costs.old costs.new result }
 {
     let mut left = count;
-    let mut k = 0;
-    while k < n && left > 0 {
-        if costs[k] == least {
-            costs[k] += weight;
+    for cost in &mut costs[..n] {
+        if left == 0 {
+            break;
+        }
+        if *cost == least {
+            *cost += weight;
             left -= 1;
         }
-        k += 1;
     }
     left
 }
@@ -53,15 +57,7 @@ fn costliest(n: usize, costs: &[u32; model::MAX_AGENTS]) -> u32
     requires { n ≤ max_agents }
     ensures { result ≡ max_to n (λ k. get_or costs.now k 0) }
 {
-    let mut most = 0;
-    let mut k = 0;
-    while k < n {
-        if costs[k] > most {
-            most = costs[k];
-        }
-        k += 1;
-    }
-    most
+    costs[..n].iter().copied().fold(0, u32::max)
 }
 
 // Agent i's maximin share.
@@ -73,47 +69,44 @@ fn share(sheet: &[u8], n: usize, m: usize, i: usize) -> u32
     let b = sheet::difficult_weight(sheet);
     let difficult = sheet::difficult_marks(sheet, m, i);
     let easy = m - difficult;
-    let mut costs = totals::zeros();
+    let mut costs = [0; model::MAX_AGENTS];
     deal(n, b, difficult, &mut costs);
     deal(n, a, easy, &mut costs);
     costliest(n, &costs)
 }
 
-// 0 for a sheet that is not turned down.
-fn measures_refusal(sheet: &[u8]) -> u8
-    ensures { result ≡ measures_refusal sheet.now }
+// What a sheet is turned down for that asks for the measures.
+fn admit(sheet: &[u8]) -> Result<(), Refusal>
+    ensures { number_of result ≡ measures_refusal sheet.now }
 {
-    let refusal = sheet::sheet_refusal(sheet);
-    if refusal != 0 {
-        return refusal;
-    }
+    sheet::admit_sheet(sheet)?;
     let a = sheet::easy_weight(sheet);
     let b = sheet::difficult_weight(sheet);
-    sheet::when(14, b % a != 0)
+    if b % a != 0 {
+        return Err(Refusal::Multiple);
+    }
+    Ok(())
 }
 
 // The numbers of the agents in the first entries of a list. The others keep what they held, and with a refusal all of them do.
-pub fn measures_over(sheet: &[u8], before: [u32; model::MAX_AGENTS]) -> model::Measures
-    ensures { Measured sheet.now before result }
+pub fn measures_over(sheet: &[u8], numbers: &mut [u32; model::MAX_AGENTS]) -> Result<(), Refusal>
+    ensures { Measured sheet.now numbers.old (number_of result) numbers.new }
 {
-    let mut numbers = before;
-    let refusal = measures_refusal(sheet);
-    if refusal != 0 {
-        return model::Measures { refusal, numbers };
-    }
+    admit(sheet)?;
     let n = sheet::agents(sheet);
     let m = sheet::chores(sheet);
-    let mut i = 0;
-    while i < n {
+    for i in 0..n {
         numbers[i] = share(sheet, n, m, i);
-        i += 1;
     }
-    model::Measures { refusal, numbers }
+    Ok(())
 }
 
 // The numbers of all agents, in their order, and 0 after them.
-pub fn measures(sheet: &[u8]) -> model::Measures
-    ensures { Measured sheet.now (replicate max_agents 0) result }
+pub fn measures(sheet: &[u8]) -> Result<[u32; model::MAX_AGENTS], Refusal>
+    ensures { MatchResult result (λ numbers. Measured sheet.now (replicate max_agents 0) 0 numbers)
+        (λ refusal. Measured sheet.now (replicate max_agents 0) (refusal_number refusal) (replicate max_agents 0)) }
 {
-    measures_over(sheet, totals::zeros())
+    let mut numbers = [0; model::MAX_AGENTS];
+    measures_over(sheet, &mut numbers)?;
+    Ok(numbers)
 }

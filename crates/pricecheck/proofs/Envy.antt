@@ -4,14 +4,13 @@ use Prim.Native.Nat.{ℕ, ◌+◌, ◌-◌, ◌≤◌, ◌<◌}
 use mathlib.Core.Bool.{Bool, false}
 use mathlib.Core.List.{List}
 use mathlib.Core.Path.{◌≡◌, refl, ap, ap₂, ◌∙◌}
-use native.Mathlib.Nat.{zero-sub}
+use native.Mathlib.Nat.{le_refl, zero-sub}
 use native.Mathlib.Omega.{arith}
 use lib.Dec.{ltb}
 use lib.ListN.{length}
 use borrow.Author.Tests.{ltb-true, lt-ltb, le-ltb}
-use Rattle.finite.specs.Search.{any_below, first_below}
 use Rattle.finite.proofs.Tests.{by_test, cond_cong}
-use Rattle.finite.proofs.Search.{any_none, first_le}
+use Rattle.finite.proofs.Search.{any_none}
 use Rattle.finite.proofs.Where.{where_none}
 use Rattle.model.specs.Limits.{max_agents}
 use Rattle.model.specs.Instance.{Instance, owner_of, price_of}
@@ -26,19 +25,15 @@ use Rattle.welfare.proofs.Answered.{refused_told}
 use Rattle.totals.specs.Totals.{Summed}
 use Rattle.pricecheck.specs.Parts.{PricesGiven, above, outpays, envy_verdict}
 
--- what a search for the first of a pair found
-module _ {n i : ℕ} (t : ℕ → ℕ → Bool) (first : i ≡ first_of_pair n t) where
-  pub pair_below : (i ≡ n → ⊥) → i < n
-  unfolding first_of_pair
-  pair_below some = omega (arith, first_le n (λ i. any_below n (λ j. t i j)))
-
-  pub envy_none : i ≡ n → accepted ≡ envy_verdict n t
+-- what the search for the first pair means for the answer
+module _ {n : ℕ} (t : ℕ → ℕ → Bool) where
+  pub envy_none : first_of_pair n t ≡ n → accepted ≡ envy_verdict n t
   unfolding envy_verdict
-  envy_none all = rw (← first, le-ltb i n (omega arith))
+  envy_none all = rw (all, le-ltb n n (le_refl n))
 
-  pub envy_found : {j : ℕ} → i < n → j ≡ first_below n (λ j. t i j) → price_envy (i + 1) (j + 1) ≡ envy_verdict n t
-  unfolding envy_verdict second_of_pair
-  envy_found below second = rw (← first, lt-ltb i n below, second)
+  pub envy_found : {i j : ℕ} → i < n → i ≡ first_of_pair n t → j ≡ second_of_pair n t → price_envy (i + 1) (j + 1) ≡ envy_verdict n t
+  unfolding envy_verdict
+  envy_found {i} below first second = rw (← first, ← second, lt-ltb i n below)
 
 -- the answer goes by what the test says below n
 verdict_cong : (n : ℕ) {t u : ℕ → ℕ → Bool} → ((i j : ℕ) → i < n → j < n → t i j ≡ u i j) → envy_verdict n t ≡ envy_verdict n u

@@ -3,9 +3,12 @@
 use Prim.Native.Nat.{ℕ, ◌*◌, ◌<◌}
 use mathlib.Core.Bool.{Bool, cond, not}
 use mathlib.Core.List.{List}
-use mathlib.Core.Path.{◌≡◌}
-use lib.Dec.{leb, eqb}
+use mathlib.Core.Path.{◌≡◌, refl, sym, ◌∙◌}
+use lib.Dec.{leb, ltb, eqb}
 use lib.ListN.{get_or}
+use borrow.Author.Tests.{lt-ltb, le-ltb, lt-leb, le-leb}
+use Rattle.finite.proofs.Below.{by_less}
+use Rattle.finite.proofs.Search.{first_cong}
 use Rattle.finite.specs.Search.{first_below}
 use Rattle.finite.proofs.Tests.{cond-not}
 use Rattle.finite.proofs.Packed.{digit_is}
@@ -21,15 +24,14 @@ use Rattle.pricecheck.specs.Parts.{PricesGiven}
 use Rattle.pricecheck.specs.Worths.{worth, Weighable, Rated, Greatest}
 use Rattle.pricecheck.proofs.Worths.{best_is, rated_fits}
 
--- chore c is not best for its owner
-unfoldable pub is_off : List ℕ → List ℕ → List ℕ → ℕ → Bool
-is_off s owners prices c = not (best (as_marked s) (price_of prices) (owner_of owners c) c)
+-- what a search for such a chore tests: chore c is worth less to its owner than the greatest worth
+abbrev pub worth_less : List ℕ → List ℕ → List ℕ → ℕ → ℕ → List ℕ → ℕ → Bool
+worth_less s owners prices a b greatest c = ltb (get_or prices c 0 * cond (eqb (cond (is_difficult s (owner_of owners c) c) 1 0) 1) a b) (get_or greatest (owner_of owners c) 0)
+
+not-leb : (x y : ℕ) → not (leb x y) ≡ ltb y x
+not-leb x y = by_less y x (λ l. rw (lt-leb _ _ l, lt-ltb _ _ l)) (λ l. rw (le-leb _ _ l, le-ltb _ _ l))
 
 module _ {s owners prices : List ℕ} {n m : ℕ} (g : PricesGiven s owners prices n m) where
-  pub first_off_is : first_off_price (as_marked s) (owner_of owners) (price_of prices) ≡ first_below m (is_off s owners prices)
-  unfolding first_off_price is_off as_marked
-  first_off_is = rw g.given.chores
-
   pub owner_among : (c : ℕ) {i : ℕ} → c < m → i ≡ owner_of owners c → i < n
   owner_among c below own = rw own (owner_below g.given c below)
 
@@ -42,19 +44,24 @@ module _ {s owners prices : List ℕ} {n m : ℕ} (g : PricesGiven s owners pric
         chore = rw (← g.given.chores) below;
       }
 
-  -- chore c, its owner i, and i's mark for it
-  module _ {a b : ℕ} (rated : Rated s prices m a b) (c : ℕ) {i mark : ℕ} (below : c < m) (own : i ≡ owner_of owners c) (read : mark ≡ cond (is_difficult s i c) 1 0) where
-    pub off_weighable : Weighable (get_or prices c 0) a b mark
-    off_weighable =
+  module _ {a b : ℕ} (rated : Rated s prices m a b) where
+    -- chore c, its owner i, and i's mark for it
+    pub off_weighable : (c : ℕ) {i mark : ℕ} → c < m → i ≡ owner_of owners c → mark ≡ cond (is_difficult s i c) 1 0 → Weighable (get_or prices c 0) a b mark
+    off_weighable c {i} below own read =
         record {
           priced = g.priced.bounded c below;
           marked = read_marked (weighed_easier rated.weighed) (is_difficult s i c) read;
           fits = rated_fits rated;
         }
 
-    -- what it is worth to i, and the greatest worths
-    module _ {value : ℕ} {greatest : List ℕ} (is : value ≡ get_or prices c 0 * cond (eqb mark 1) a b) (all : Greatest s prices n m greatest) where
-      pub off_is : is_off s owners prices c ≡ not (leb (get_or greatest i 0) value)
-      unfolding is_off worth as_marked marks_easy price_of
-      off_is =
-          rw (← own, best_is (as_marked s) (marked_weighted g.given.valid) (price_of prices) i c, all.each i (owner_among c below own), is, read, digit_is (is_difficult s i c), rated.weighed.easy, rated.weighed.difficult, g.given.chores, cond-not (is_difficult s i c) (difficult_weight s) (easy_weight s))
+    module _ {greatest : List ℕ} (all : Greatest s prices n m greatest) where
+      off_is : (c : ℕ) → c < m → worth_less s owners prices a b greatest c ≡ not (best (as_marked s) (price_of prices) (owner_of owners c) c)
+      unfolding worth as_marked marks_easy price_of
+      off_is c below =
+          let i = owner_of owners c in
+          sym (rw (best_is (as_marked s) (marked_weighted g.given.valid) (price_of prices) i c, not-leb, all.each i (owner_among c below refl), digit_is (is_difficult s i c), rated.weighed.easy, rated.weighed.difficult, g.given.chores, cond-not (is_difficult s i c) (difficult_weight s) (easy_weight s)))
+
+      -- the first is that of the definition
+      pub off_first : first_below m (worth_less s owners prices a b greatest) ≡ first_off_price (as_marked s) (owner_of owners) (price_of prices)
+      unfolding first_off_price as_marked
+      off_first = first_cong m off_is ∙ rw g.given.chores

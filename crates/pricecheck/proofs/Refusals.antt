@@ -20,20 +20,6 @@ use Rattle.pricecheck.specs.Parts.{PricesGiven}
 use Rattle.pricecheck.specs.Worths.{Rated}
 use Rattle.given.proofs.Given.{given, given_few, given_weighed}
 
-module _ (m : ℕ) (prices : List ℕ) where
-  pub prices_refused_size : (length prices ≡ m → ⊥) → prices_refusal m prices ≡ 10
-  unfolding prices_refusal
-  prices_refused_size h = rw (ne_eqb (length prices) m h)
-
-  module _ (size : length prices ≡ m) where
-    pub prices_refused_range : entries_in_range max_price m prices ≡ false → prices_refusal m prices ≡ 10
-    unfolding prices_refusal
-    prices_refused_range e = rw (eq-eqb (length prices) m size, e)
-
-    pub prices_fine : entries_in_range max_price m prices ≡ true → prices_refusal m prices ≡ 0
-    unfolding prices_refusal
-    prices_fine e = rw (eq-eqb (length prices) m size, e)
-
 -- what the refusal being 0 gives
 pub prices_given : (s owners prices : List ℕ) {n m : ℕ} → price_refusal s owners prices ≡ 0 → n ≡ agents_of s → m ≡ chores_of s → PricesGiven s owners prices n m
 unfolding price_refusal

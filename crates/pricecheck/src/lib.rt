@@ -1,49 +1,42 @@
 // The price check: each chore is to be best for its owner, and nobody's price up to one above anybody's price sum.
 #![tactic(auto)]
 
-ghost use Rattle.std.specs.Prelude.{◌≡◌, ◌+◌, ◌*◌, ◌≤◌, max, cond, eqb, length};
+ghost use Rattle.std.specs.Prelude.{◌≡◌, ◌+◌, ◌*◌, ◌≤◌, max, cond, eqb, length, ◌<◌, IfSome, MatchOption};
+ghost use Rattle.finite.specs.Search.{if_below};
 ghost use Rattle.finite.specs.Sums.{max_to};
 ghost use Rattle.model.specs.Limits.{max_agents};
 ghost use Rattle.model.specs.Instance.{owner_of, price_of};
 ghost use Rattle.model.specs.Sheet.{agents_of, as_marked};
+ghost use Rattle.model.specs.RefusalNumbers.{number_of};
 ghost use Rattle.model.specs.Refusals.{prices_refusal, price_refusal};
-ghost use Rattle.model.specs.Verdicts.{first_of_pair, first_off_price};
+ghost use Rattle.model.specs.Verdicts.{first_of_pair, second_of_pair, first_off_price};
 ghost use Rattle.model.specs.Replies.{price_reply};
 ghost use Rattle.model.specs.Promises.{PricesChecked};
 ghost use Rattle.totals.specs.Totals.{Held};
 ghost use Rattle.pricecheck.specs.Parts.{PricesGiven, above, outpays, envy_verdict};
 ghost use Rattle.pricecheck.specs.Worths.{Rated, Weighable, UpToEight, worth_in, Column, Greatest};
 
-use model::PriceVerdict;
+use model::{PriceVerdict, Refusal};
 
-// The number that a list of prices is turned down with, 0 where it is not.
-fn prices_refusal(prices: &[u32], m: usize) -> u8
-    ensures { result ≡ prices_refusal m prices.now }
+// What a list of prices is turned down for.
+fn admit_prices(prices: &[u32], m: usize) -> Result<(), Refusal>
+    ensures { number_of result ≡ prices_refusal m prices.now }
 {
     if prices.len() != m {
-        return 10;
+        return Err(Refusal::Prices);
     }
-    let mut c = 0;
-    while c < m {
-        let price = prices[c];
-        if price == 0 || price > model::MAX_PRICE {
-            return 10;
-        }
-        c += 1;
+    if !prices.iter().all(|&price| !sheet::out_of_range(price as usize, model::MAX_PRICE as usize)) {
+        return Err(Refusal::Prices);
     }
-    0
+    Ok(())
 }
 
-// The number that the price check is turned down with, 0 where it is not.
-fn price_refusal(sheet: &[u8], owners: &[u8], prices: &[u32]) -> u8
-    ensures { result ≡ price_refusal sheet.now owners.now prices.now }
+// What the price check is turned down for.
+fn admit(sheet: &[u8], owners: &[u8], prices: &[u32]) -> Result<(), Refusal>
+    ensures { number_of result ≡ price_refusal sheet.now owners.now prices.now }
 {
-    let refusal = given::given_refusal(sheet, owners);
-    if refusal != 0 {
-        return refusal;
-    }
-    let m = sheet::chores(sheet);
-    prices_refusal(prices, m)
+    given::admit_given(sheet, owners)?;
+    admit_prices(prices, sheet::chores(sheet))
 }
 
 // What a chore is worth to an agent: its price times the weight that it does not cost. A cost times the other weight is a times b, whichever
@@ -71,13 +64,8 @@ fn greatest_in_byte(
     ensures { result ≡ max known (max_to count (worth_in a b prices.now first byte)) }
 {
     let mut greatest = known;
-    let mut j = 0;
-    while j < count {
-        let value = worth(prices[first + j], a, b, sheet::mark_in(byte, j));
-        if greatest < value {
-            greatest = value;
-        }
-        j += 1;
+    for j in 0..count {
+        greatest = greatest.max(worth(prices[first + j], a, b, sheet::mark_in(byte, j)));
     }
     greatest
 }
@@ -101,14 +89,12 @@ fn raise(
 {
     let first = 8 * k;
     let most = greatest_in_byte(0, prices, first, count, a, b, 0);
-    let mut i = 0;
-    while i < n {
+    for i in 0..n {
         let known = greatest[i];
         if known < most {
             let byte = sheet::row_byte(sheet, m, i, k);
             greatest[i] = greatest_in_byte(byte, prices, first, count, a, b, known);
         }
-        i += 1;
     }
 }
 
@@ -125,87 +111,70 @@ fn greatest_worths(
     requires n_value { n ≡ agents_of sheet.now }
     ensures { Greatest sheet.now prices.now n m result }
 {
-    let mut greatest = totals::zeros();
-    let mut k = 0;
-    while k < m / 8 {
+    let mut greatest = [0; model::MAX_AGENTS];
+    for k in 0..m / 8 {
         raise(sheet, prices, n, m, a, b, k, 8, &mut greatest);
-        k += 1;
     }
-    raise(sheet, prices, n, m, a, b, k, m % 8, &mut greatest);
+    raise(sheet, prices, n, m, a, b, m / 8, m % 8, &mut greatest);
     greatest
 }
 
-// The first chore that is not best for its owner, m where each is. A chore is best if no other is worth more to its owner.
-fn first_off_price(sheet: &[u8], owners: &[u8], prices: &[u32], n: usize, m: usize) -> usize
+// The first chore that is not best for its owner. A chore is best if no other is worth more to its owner.
+fn first_off_price(sheet: &[u8], owners: &[u8], prices: &[u32], n: usize, m: usize) -> Option<usize>
     requires { PricesGiven sheet.now owners.now prices.now n m }
-    ensures { result ≡ first_off_price (as_marked sheet.now) (owner_of owners.now) (price_of prices.now) }
+    ensures is { result ≡ if_below m (first_off_price (as_marked sheet.now) (owner_of owners.now) (price_of prices.now)) }
+    ensures within { IfSome result (λ c. c < m) }
 {
     let a = sheet::easy_weight(sheet);
     let b = sheet::difficult_weight(sheet);
     let greatest = greatest_worths(sheet, prices, n, m, a, b);
-    let mut c = 0;
-    while c < m {
+    (0..m).find(|&c| {
         let i = given::owner(owners, c);
-        let value = worth(prices[c], a, b, sheet::mark_at(sheet, m, i, c));
-        if value < greatest[i] {
-            return c;
-        }
-        c += 1;
-    }
-    m
+        worth(prices[c], a, b, sheet::mark_at(sheet, m, i, c)) < greatest[i]
+    })
 }
 
-// The first agent whose price up to one is above somebody's sum, n where there is none. An agent with no chore has a price up to one of 0,
-// which is above no sum: it envies nobody.
-fn first_envious(n: usize, ups: &[u32; model::MAX_AGENTS], sums: &[u32; model::MAX_AGENTS]) -> usize
+// The first pair by the first agent and then by the second, where the first's price up to one is above the second's sum. An agent with no chore
+// has a price up to one of 0, which is above no sum: it envies nobody.
+fn first_envy(
+    n: usize,
+    ups: &[u32; model::MAX_AGENTS],
+    sums: &[u32; model::MAX_AGENTS],
+) -> Option<(usize, usize)>
     requires { n ≤ max_agents }
-    ensures { result ≡ first_of_pair n (above ups.now sums.now) }
+    ensures { let t = above ups.now sums.now in MatchOption result (first_of_pair n t ≡ n) (λ p. (p.0 < n) × (p.1 < n) × (p.0 ≡ first_of_pair n t) × (p.1 ≡ second_of_pair n t)) }
 {
-    let mut i = 0;
-    while i < n {
-        let limit = ups[i];
-        if totals::first_below(n, sums, limit) < n {
-            return i;
-        }
-        i += 1;
-    }
-    n
+    (0..n).find_map(|i| totals::first_below(n, sums, ups[i]).map(|j| (i, j)))
 }
 
 // Price envy by the first pair, or acceptance.
 fn envy_verdict(owners: &[u8], prices: &[u32], n: usize) -> PriceVerdict
     requires held { Held owners.now prices.now }
     requires n_le_max_agents { n ≤ max_agents }
-    ensures { price_reply result ≡ envy_verdict n (outpays (length owners.now) (owner_of owners.now) (price_of prices.now)) }
+    ensures { price_reply (Ok result) ≡ envy_verdict n (outpays (length owners.now) (owner_of owners.now) (price_of prices.now)) }
 {
-    let mut sums = totals::zeros();
-    let mut ups = totals::zeros();
+    let mut sums = [0; model::MAX_AGENTS];
+    let mut ups = [0; model::MAX_AGENTS];
     totals::sum_up(n, owners, prices, &mut sums, &mut ups);
-    let i = first_envious(n, &ups, &sums);
-    if i == n {
-        return PriceVerdict::Accepted;
+    match first_envy(n, &ups, &sums) {
+        Some((i, j)) => PriceVerdict::PriceEnvy((i + 1) as u8, (j + 1) as u8),
+        None => PriceVerdict::Accepted,
     }
-    let limit = ups[i];
-    let j = totals::first_below(n, &sums, limit);
-    let envious = (i + 1) as u8;
-    let envied = (j + 1) as u8;
-    PriceVerdict::PriceEnvy(envious, envied)
 }
 
 // Whether a list of owners, with prices, is accepted.
-pub fn check_prices(sheet: &[u8], owners: &[u8], prices: &[u32]) -> PriceVerdict
+pub fn check_prices(
+    sheet: &[u8],
+    owners: &[u8],
+    prices: &[u32],
+) -> Result<PriceVerdict, Refusal>
     ensures { PricesChecked sheet.now owners.now prices.now result }
 {
-    let refused = price_refusal(sheet, owners, prices);
-    if refused != 0 {
-        return PriceVerdict::Refused(refused);
-    }
+    admit(sheet, owners, prices)?;
     let n = sheet::agents(sheet);
     let m = sheet::chores(sheet);
-    let c = first_off_price(sheet, owners, prices, n, m);
-    if c < m {
-        let chore = (c + 1) as u16;
-        return PriceVerdict::OffPrice(chore);
+    if let Some(c) = first_off_price(sheet, owners, prices, n, m) {
+        return Ok(PriceVerdict::OffPrice((c + 1) as u16));
     }
-    envy_verdict(owners, prices, n)
+    Ok(envy_verdict(owners, prices, n))
 }

@@ -11,13 +11,15 @@ use lib.Seq.{sets, sets-eq, length-sets}
 use borrow.Author.Tests.{eq-eqb, ne_eqb}
 use Rattle.finite.specs.Packed.{bytes_for}
 use Rattle.finite.proofs.Lists.{sets_append}
-use Rattle.model.specs.declared.Join.{Join}
+use Rattle.std.specs.Prelude.{Result, Ok}
+use Rattle.model.specs.declared.Refusal.{Refusal}
 use Rattle.model.specs.Limits.{max_chores}
 use Rattle.model.specs.Sheet.{header_size, agents_of, chores_of, row_of}
 use Rattle.model.specs.Strands.{joined_chores, joined_row, joined_rows, joined_header, joined_sheet}
 use Rattle.model.specs.Refusals.{join_refusal}
 use Rattle.model.specs.Verdicts.{unless_refused}
 use Rattle.model.specs.Promises.{joined_over, SheetsJoined}
+use Rattle.model.proofs.Refusing.{Left}
 use Rattle.sheet.specs.Valid.{Joinable}
 use Rattle.sheet.specs.Readers.{RowInSheet}
 use Rattle.sheet.proofs.Strands.{first_row, second_row, header_long, rows_long, joined_long, joined_taken}
@@ -120,17 +122,18 @@ module _ {first second lent : List ℕ} (R : Room first second lent) where
 
 -- what is promised, refused or not
 
-pub not-joined : (first second lent : List ℕ) {k : ℕ} → k ≡ join_refusal first second (length lent) → (k ≡ 0 → ⊥) → SheetsJoined first second lent lent (Join.Refused k)
+pub not-joined : (first second lent : List ℕ) {r : Result ℕ Refusal} → Left r (join_refusal first second (length lent)) → SheetsJoined first second lent lent r
 unfolding unless_refused joined_over
-not-joined first second lent {k} e h =
-    let some : join_refusal first second (length lent) ≡ 0 → ⊥ = λ z. h (e ∙ z) in
+not-joined first second lent L =
+    let p = L.positive in
+    let some : join_refusal first second (length lent) ≡ 0 → ⊥ = λ z. omega (arith, z, p) in
     record {
-      answer = rw (ne_eqb _ 0 some, e);
+      answer = rw (ne_eqb _ 0 some, L.is, L.number);
       at_exit = sym (rw (ne_eqb _ 0 some));
       taken = λ z. absurd (some z);
     }
 
-pub all_joined : (first second lent : List ℕ) {lent' : List ℕ} {size : ℕ} → join_refusal first second (length lent) ≡ 0 → size ≡ length (joined_sheet first second) → lent' ≡ joined_sheet first second ++ drop (length (joined_sheet first second)) lent → SheetsJoined first second lent lent' (Join.Joined size)
+pub all_joined : (first second lent : List ℕ) {lent' : List ℕ} {size : ℕ} → join_refusal first second (length lent) ≡ 0 → size ≡ length (joined_sheet first second) → lent' ≡ joined_sheet first second ++ drop (length (joined_sheet first second)) lent → SheetsJoined first second lent lent' (Ok size)
 unfolding unless_refused joined_over
 all_joined first second lent z e made =
     record {

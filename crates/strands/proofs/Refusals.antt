@@ -18,15 +18,8 @@ use Rattle.sheet.proofs.Strands.{joinable}
 use Rattle.strands.specs.Parts.{Headers}
 
 module _ (first second : List ℕ) where
-  -- the two sheets' own numbers come before all else
-  pub own_first : (sheet_refusal first or_else sheet_refusal second) or_else (12 when not (agree first second) or_else 2 when ltb max_chores (joined_chores first second)) ≡ strands_refusal first second
-  unfolding strands_refusal
-  own_first = or_else_assoc (sheet_refusal first) (sheet_refusal second) _
-
-  pub headers : sheet_refusal first or_else sheet_refusal second ≡ 0 → Headers first second
-  headers e =
-      let both = or_else_zero (sheet_refusal first) (sheet_refusal second) e in
-      record { of_first = (valid first both.0).header; of_second = (valid second both.1).header }
+  pub headers : sheet_refusal first ≡ 0 → sheet_refusal second ≡ 0 → Headers first second
+  headers e f = record { of_first = (valid first e).header; of_second = (valid second f).header }
 
   -- joining that is not refused
   module _ (lent : ℕ) (z : join_refusal first second lent ≡ 0) where

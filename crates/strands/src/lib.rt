@@ -1,16 +1,19 @@
 // Two strands: whether their sheets can be joined, the sheet that they make, and an agent's marks out of the sheet that holds a chore.
 #![tactic(auto)]
 
-ghost use Rattle.std.specs.Prelude.{◌≡◌, ◌+◌, ◌/◌, ◌%◌, ◌≤◌, ◌<◌, ◌∷◌, length, take, drop};
+ghost use Rattle.std.specs.Prelude.{◌≡◌, ◌+◌, ◌/◌, ◌%◌, ◌≤◌, ◌<◌, [], ◌∷◌, MatchResult, length, take, drop};
 ghost use Rattle.std.proofs.lemmas.List.Edits.{sets};
 ghost use Rattle.finite.specs.Packed.{bytes_for};
 ghost use Rattle.model.specs.Sheet.{header_size, agents_of};
 ghost use Rattle.model.specs.Strands.{agree, joined_chores, joined_rows, joined_sheet, in_first, strand_of, strand_sheet};
+ghost use Rattle.model.specs.RefusalNumbers.{refusal_number, number_of};
 ghost use Rattle.model.specs.Refusals.{strands_refusal, join_refusal, show_refusal};
 ghost use Rattle.model.specs.Promises.{SheetsJoined, MarksShown};
 ghost use Rattle.sheet.specs.Valid.{Joinable};
 ghost use Rattle.sheet.specs.Readers.{Read};
 ghost use Rattle.strands.specs.Parts.{Headers, Room, moved_byte, Moved, seam_bits, both_rows, RowsLent};
+
+use model::Refusal;
 
 fn agree(first: &[u8], second: &[u8]) -> bool
     requires { Headers first.now second.now }
@@ -29,17 +32,19 @@ fn joined_chores(first: &[u8], second: &[u8]) -> usize
     sheet::chores(first) + sheet::chores(second)
 }
 
-// 0 for two strands that can be joined.
-fn strands_refusal(first: &[u8], second: &[u8]) -> u8
-    ensures { result ≡ strands_refusal first.now second.now }
+// What two strands that can't be joined are turned down for.
+fn admit_strands(first: &[u8], second: &[u8]) -> Result<(), Refusal>
+    ensures { number_of result ≡ strands_refusal first.now second.now }
 {
-    let refusal = sheet::or_else(sheet::sheet_refusal(first), sheet::sheet_refusal(second));
-    if refusal != 0 {
-        return refusal;
+    sheet::admit_sheet(first)?;
+    sheet::admit_sheet(second)?;
+    if !agree(first, second) {
+        return Err(Refusal::Strands);
     }
-    let refusal = sheet::when(12, !agree(first, second));
-    let m = joined_chores(first, second);
-    sheet::or_else(refusal, sheet::when(2, m > model::MAX_CHORES))
+    if joined_chores(first, second) > model::MAX_CHORES {
+        return Err(Refusal::Chores);
+    }
+    Ok(())
 }
 
 fn joined_size(first: &[u8], second: &[u8]) -> usize
@@ -49,27 +54,30 @@ fn joined_size(first: &[u8], second: &[u8]) -> usize
     sheet::row_start(joined_chores(first, second), sheet::agents(first))
 }
 
-fn join_refusal(first: &[u8], second: &[u8], lent: usize) -> u8
-    ensures { result ≡ join_refusal first.now second.now lent }
+fn admit_join(first: &[u8], second: &[u8], lent: usize) -> Result<(), Refusal>
+    ensures { number_of result ≡ join_refusal first.now second.now lent }
 {
-    let refusal = strands_refusal(first, second);
-    if refusal != 0 {
-        return refusal;
-    }
-    sheet::lent_refusal(joined_size(first, second), lent)
+    admit_strands(first, second)?;
+    sheet::admit_lent(joined_size(first, second), lent)
 }
 
 // One lifetime for both sheets, here and up to the export: what is shown may be a part of either.
-pub fn show_refusal<'a>(first: &'a [u8], second: &'a [u8], person: usize, chore: usize) -> u8
-    ensures { result ≡ show_refusal first.now second.now person chore }
+pub fn admit_show<'a>(
+    first: &'a [u8],
+    second: &'a [u8],
+    person: usize,
+    chore: usize,
+) -> Result<(), Refusal>
+    ensures { number_of result ≡ show_refusal first.now second.now person chore }
 {
-    let refusal = strands_refusal(first, second);
-    if refusal != 0 {
-        return refusal;
+    admit_strands(first, second)?;
+    if sheet::out_of_range(person, sheet::agents(first)) {
+        return Err(Refusal::NotThere);
     }
-    let refusal = sheet::when(9, sheet::out_of_range(person, sheet::agents(first)));
-    let m = joined_chores(first, second);
-    sheet::or_else(refusal, sheet::when(9, sheet::out_of_range(chore, m)))
+    if sheet::out_of_range(chore, joined_chores(first, second)) {
+        return Err(Refusal::NotThere);
+    }
+    Ok(())
 }
 
 // The first bytes of a row, as they are.
@@ -171,20 +179,15 @@ fn write_header(first: &[u8], m: usize, joined: &mut [u8])
     joined[6] = first[6];
 }
 
-// The joined sheet stands at the start of the lent list, and the answer tells its size.
-pub fn join_sheets(first: &[u8], second: &[u8], joined: &mut [u8]) -> model::Join
+// The joined sheet stands at the start of the lent list, and the answer is its size.
+pub fn join_sheets(first: &[u8], second: &[u8], joined: &mut [u8]) -> Result<usize, Refusal>
     ensures { SheetsJoined first.now second.now joined.old joined.new result }
 {
-    let refusal = join_refusal(first, second, joined.len());
-    if refusal != 0 {
-        return model::Join::Refused(refusal);
-    }
+    admit_join(first, second, joined.len())?;
     let m = joined_chores(first, second);
     write_header(first, m, joined);
     write_rows(first, second, joined);
-    model::Join::Joined {
-        size: joined_size(first, second),
-    }
+    Ok(joined_size(first, second))
 }
 
 fn in_first(first: &[u8], chore: usize) -> bool
@@ -213,34 +216,17 @@ pub fn strand_sheet<'a>(first: &'a [u8], second: &'a [u8], chore: usize) -> &'a 
     second
 }
 
-// The part that goes with a refusal number: no marks where it is refused.
-fn marks_of<'a>(
-    first: &'a [u8],
-    second: &'a [u8],
-    refusal: u8,
-    person: usize,
-    chore: usize,
-) -> &'a [u8]
-    requires { refusal ≡ show_refusal first.now second.now person chore }
-    ensures { MarksShown first.now second.now person chore refusal result.now }
-{
-    if refusal != 0 {
-        return &first[0..0];
-    }
-    let held = strand_sheet(first, second, chore);
-    sheet::row(held, sheet::chores(held), person - 1)
-}
-
-// The number and the part at once, as a lookup has them.
+// The person's row of the sheet that holds the chore, as a part of that sheet.
 pub fn show_marks<'a>(
     first: &'a [u8],
     second: &'a [u8],
     person: usize,
     chore: usize,
-) -> model::Shown<'a>
-    ensures { MarksShown first.now second.now person chore result.refusal result.marks.now }
+) -> Result<&'a [u8], Refusal>
+    ensures { MatchResult result (λ marks. MarksShown first.now second.now person chore 0 marks.now)
+        (λ refusal. MarksShown first.now second.now person chore (refusal_number refusal) []) }
 {
-    let refusal = show_refusal(first, second, person, chore);
-    let marks = marks_of(first, second, refusal, person, chore);
-    model::Shown { refusal, marks }
+    admit_show(first, second, person, chore)?;
+    let held = strand_sheet(first, second, chore);
+    Ok(sheet::row(held, sheet::chores(held), person - 1))
 }

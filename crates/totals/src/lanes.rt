@@ -1,20 +1,14 @@
 // Price sums in lanes: chores that follow one another are added to different sums of their owner, and each agent's are added up after the pass.
-ghost use Rattle.std.specs.Prelude.{◌+◌, ◌^◌, ◌<◌, ◌≡◌, length, replicate};
+ghost use Rattle.std.specs.Prelude.{◌+◌, ◌^◌, ◌<◌, ◌≡◌, length};
 ghost use Rattle.finite.specs.Lists.{Table};
 ghost use Rattle.model.specs.Limits.{max_agents};
 ghost use Rattle.model.specs.Instance.{owner_of, price_of};
 ghost use Rattle.model.specs.Prices.{price_sum};
 ghost use Rattle.totals.specs.Totals.{Held};
-ghost use Rattle.totals.specs.Lanes.{lanes_size, lane_sum, Laned, Adding, Narrow};
+ghost use Rattle.totals.specs.Lanes.{lane_sum, Laned, Adding, Narrow};
 
 // So many partial sums for each agent: an addition need not wait for the one before it.
 const LANES: usize = 8;
-
-fn no_lanes() -> [u32; LANES * model::MAX_AGENTS]
-    ensures { result ≡ replicate lanes_size 0 }
-{
-    [0; LANES * model::MAX_AGENTS]
-}
 
 // The next `count` chores, each in a lane of its own.
 fn add_some(
@@ -27,11 +21,9 @@ fn add_some(
     requires { Adding from count owners.now prices.now lanes.old }
     ensures { Laned (from + count) owners.now prices.now lanes.new }
 {
-    let mut q = 0;
-    while q < count {
+    for q in 0..count {
         let o = owners[from + q] as usize - 1;
         lanes[model::MAX_AGENTS * q + o] += prices[from + q];
-        q += 1;
     }
 }
 
@@ -40,13 +32,7 @@ fn lane_sum(lanes: &[u32; LANES * model::MAX_AGENTS], i: usize) -> u32
     requires { (i < max_agents) × (lane_sum lanes.now i < 2 ^ 32) }
     ensures { result ≡ lane_sum lanes.now i }
 {
-    let mut sum = 0;
-    let mut q = 0;
-    while q < LANES {
-        sum += lanes[model::MAX_AGENTS * q + i];
-        q += 1;
-    }
-    sum
+    (0..LANES).map(|q| lanes[model::MAX_AGENTS * q + i]).sum()
 }
 
 // The lanes of each agent added up.
@@ -54,10 +40,8 @@ fn add_lanes(lanes: &[u32; LANES * model::MAX_AGENTS], sums: &mut [u32; model::M
     requires { Narrow lanes.now × (length sums.old ≡ max_agents) }
     ensures { Table max_agents (lane_sum lanes.now) sums.new }
 {
-    let mut i = 0;
-    while i < model::MAX_AGENTS {
-        sums[i] = lane_sum(lanes, i);
-        i += 1;
+    for (i, sum) in sums.iter_mut().enumerate() {
+        *sum = lane_sum(lanes, i);
     }
 }
 
@@ -66,12 +50,17 @@ pub fn add_up(owners: &[u8], prices: &[u32], sums: &mut [u32; model::MAX_AGENTS]
     requires { Held owners.now prices.now × (length sums.old ≡ max_agents) }
     ensures { Table max_agents (price_sum (length owners.now) (owner_of owners.now) (price_of prices.now)) sums.new }
 {
-    let mut lanes = no_lanes();
-    let mut c = 0;
-    while owners.len() - c > LANES {
-        add_some(owners, prices, c, LANES, &mut lanes);
-        c += LANES;
+    let mut lanes = [0; LANES * model::MAX_AGENTS];
+    let full = owners.len() / LANES;
+    for k in 0..full {
+        add_some(owners, prices, LANES * k, LANES, &mut lanes);
     }
-    add_some(owners, prices, c, owners.len() - c, &mut lanes);
+    add_some(
+        owners,
+        prices,
+        LANES * full,
+        owners.len() % LANES,
+        &mut lanes,
+    );
     add_lanes(&lanes, sums);
 }

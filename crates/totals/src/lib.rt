@@ -38,11 +38,7 @@ pub fn no_scratch() -> [u8; model::SCRATCH_SIZE]
 pub fn clear(xs: &mut [u8])
     ensures { xs.new ≡ replicate (length xs.old) 0 }
 {
-    let mut i = 0;
-    while i < xs.len() {
-        xs[i] = 0;
-        i += 1;
-    }
+    xs.fill(0);
 }
 
 // The dearest becomes what is left of the sum without it.
@@ -50,10 +46,8 @@ fn take_off(n: usize, sums: &[u32; model::MAX_AGENTS], dearest: &mut [u32; model
     requires { Parts n sums.now dearest.old }
     ensures { TakenOff n sums.now dearest.old dearest.new }
 {
-    let mut i = 0;
-    while i < n {
+    for i in 0..n {
         dearest[i] = sums[i] - dearest[i];
-        i += 1;
     }
 }
 
@@ -69,15 +63,10 @@ pub fn sum_up(
     requires { Summing n owners.now prices.now sums.old ups.old }
     ensures { Summed n owners.now prices.now sums.new ups.new }
 {
-    let mut c = 0;
-    while c < owners.len() {
-        let o = owners[c] as usize - 1;
-        let price = prices[c];
+    for (&owner, &price) in owners.iter().zip(prices) {
+        let o = owner as usize - 1;
         sums[o] += price;
-        if ups[o] < price {
-            ups[o] = price;
-        }
-        c += 1;
+        ups[o] = ups[o].max(price);
     }
     take_off(n, sums, ups);
 }
@@ -96,12 +85,10 @@ pub fn first_least(n: usize, sums: &[u32; model::MAX_AGENTS]) -> usize
     ensures { result ≡ chosen n (λ i. true) (λ j i. ltb (get_or sums.now j 0) (get_or sums.now i 0)) }
 {
     let mut best = 0;
-    let mut i = 1;
-    while i < n {
+    for i in 1..n {
         if sums[i] < sums[best] {
             best = i;
         }
-        i += 1;
     }
     best
 }

@@ -1,20 +1,20 @@
 -- Laws of what is shown: the search for a wasted chore is the test for waste, and what it finds starts the walk.
 -- Assumes nothing.
-use Prim.Native.Nat.{ℕ, ◌≤◌, ◌<◌}
+use Prim.Native.Nat.{ℕ, ◌<◌}
 use mathlib.Core.Bool.{true, false, not, ◌&&◌}
 use mathlib.Core.List.{List}
 use mathlib.Core.Path.{◌≡◌, sym, ap, ◌∙◌}
 use native.Mathlib.Omega.{arith}
-use lib.Dec.{ltb}
-use borrow.Author.Tests.{lt-ltb, le-ltb, ltb-true}
-use Rattle.finite.specs.Search.{any_below, first_below}
-use Rattle.finite.proofs.Search.{any_cong, any_first, first_passes}
+use Rattle.std.specs.Prelude.{Option, Some, is_some}
+use Rattle.finite.specs.Search.{any_below, first_below, if_below, First}
+use Rattle.finite.proofs.Search.{any_cong}
 use Rattle.model.specs.Instance.{owner_of}
 use Rattle.model.specs.Sheet.{agents_of, chores_of, marks_easy, as_marked}
 use Rattle.model.specs.Fairness.{dominated}
 use Rattle.welfare.specs.Waste.{connected, waste_test}
 use Rattle.welfare.proofs.Waste.{waste_exact}
 use Rattle.given.specs.Given.{Given}
+use Rattle.given.proofs.Found.{any_found, found_first}
 use Rattle.given.proofs.Given.{owner_agent}
 use Rattle.waste.specs.Rings.{no_distance, Rings}
 use Rattle.waste.specs.Tests.{takes, wasted}
@@ -34,22 +34,30 @@ module _ {s owners : List ℕ} {n m : ℕ} (g : Given s owners n m) {distances :
   waste_search =
       rw (g.chores, g.agents) (any_cong (chores_of s) (λ c l. ap (λ b. not (marks_easy s (owner_of owners c) c) && b) (any_cong (agents_of s) (λ j k. sym (connected-takes c j k)))))
 
-  module _ {c : ℕ} (first : c ≡ first_below m (wasted s owners distances n)) where
-    dominated_search : dominated (as_marked s) (owner_of owners) ≡ ltb c m
+  module _ {o : Option ℕ} (search : o ≡ if_below m (first_below m (wasted s owners distances n))) where
+    pub dominated_search : is_some o ≡ dominated (as_marked s) (owner_of owners)
     unfolding as_marked
     dominated_search =
-        waste_exact (as_marked s) (owner_of owners) g.valid.easy_positive g.valid.easier (owner_agent g)
-        ∙ waste_search ∙ any_first m (wasted s owners distances n) ∙ ap (λ k. ltb k m) (sym first)
+        ap is_some search ∙ any_found m (wasted s owners distances n)
+        ∙ sym (waste_exact (as_marked s) (owner_of owners) g.valid.easy_positive g.valid.easier (owner_agent g) ∙ waste_search)
 
-    pub dominated_none : m ≤ c → false ≡ dominated (as_marked s) (owner_of owners)
-    dominated_none l = sym (dominated_search ∙ le-ltb c m l)
+  -- chore c was found, and some agent can take it
+  module _ {c : ℕ} (first : Some c ≡ if_below m (first_below m (wasted s owners distances n))) where
+    at_first : First m (wasted s owners distances n) c
+    at_first = found_first (wasted s owners distances n) first
 
-    pub dominated_some : c < m → true ≡ dominated (as_marked s) (owner_of owners)
-    dominated_some l = sym (dominated_search ∙ lt-ltb c m l)
+    pub wasted_chore : c < m
+    wasted_chore = at_first.below
 
-    pub wasting : {j : ℕ} → c < m → j ≡ first_below n (takes s distances no_distance c) → Wasting s owners distances n m c j
-    wasting {j} l e =
-        let both = wasted_elim s owners distances n c (rw (← first) at (first_passes m (wasted s owners distances n) (rw first at l))) in
-        let some : first_below n (takes s distances no_distance c) < n = ltb-true _ n (sym (any_first n (takes s distances no_distance c)) ∙ both.1) in
-        let two = takes_elim s distances no_distance c j (rw (← e) at (first_passes n (takes s distances no_distance c) some)) in
-        record { chore = l; hard = both.0; taker = rw e some; has = two.0; easy = two.1 }
+    wasting_parts : (marks_easy s (owner_of owners c) c ≡ false) × (any_below n (takes s distances no_distance c) ≡ true)
+    wasting_parts = wasted_elim s owners distances n c at_first.passes
+
+    module _ {q : Option ℕ} (taking : q ≡ if_below n (first_below n (takes s distances no_distance c))) where
+      pub wasting_some : is_some q ≡ true
+      wasting_some = ap is_some taking ∙ any_found n (takes s distances no_distance c) ∙ wasting_parts.1
+
+      pub wasting : {j : ℕ} → q ≡ Some j → Wasting s owners distances n m c j
+      wasting {j} taker =
+          let taken = found_first (takes s distances no_distance c) (sym taker ∙ taking) in
+          let two = takes_elim s distances no_distance c j taken.passes in
+          record { chore = wasted_chore; hard = wasting_parts.0; taker = taken.below; has = two.0; easy = two.1 }

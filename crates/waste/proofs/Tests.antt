@@ -1,16 +1,15 @@
 -- Laws of the tests that the searches for waste go by.
 -- Assumes nothing.
-use Prim.Native.Nat.{ℕ, ◌≤◌, ◌<◌}
+use Prim.Native.Nat.{ℕ, ◌<◌}
 use mathlib.Core.Bool.{Bool, true, false, not, ◌&&◌}
 use mathlib.Core.List.{List}
-use mathlib.Core.Path.{◌≡◌, ◌∙◌}
+use mathlib.Core.Path.{◌≡◌}
 use native.Mathlib.Omega.{arith}
 use lib.Dec.{ltb}
 use lib.ListN.{get_or}
-use borrow.Author.Tests.{lt-ltb, le-ltb, ltb-true, not-true}
-use Rattle.finite.specs.Search.{any_below, first_below}
-use Rattle.finite.proofs.Tests.{and_elim, and_intro, and_no_left, and_no_right, not_on, not_off}
-use Rattle.finite.proofs.Search.{any_first}
+use borrow.Author.Tests.{lt-ltb, ltb-true, not-true}
+use Rattle.finite.specs.Search.{any_below}
+use Rattle.finite.proofs.Tests.{and_elim, and_intro, and_no_left}
 use Rattle.model.specs.Instance.{owner_of}
 use Rattle.model.specs.Sheet.{marks_easy, as_marked}
 use Rattle.model.specs.Fairness.{owns}
@@ -18,6 +17,7 @@ use Rattle.sheet.specs.Readers.{InSheet}
 use Rattle.welfare.specs.Waste.{passes_on}
 use Rattle.welfare.proofs.Costs.{owned, owned_by, owned_not}
 use Rattle.given.specs.Given.{Given}
+use Rattle.given.proofs.Given.{owner_below}
 use Rattle.waste.specs.Rings.{no_distance}
 use Rattle.waste.specs.Tests.{shares, takes, wasted, passable, OnSheet, BothOnSheet}
 
@@ -43,6 +43,10 @@ module _ {s owners : List ℕ} {n m : ℕ} (g : Given s owners n m) where
   pub given_in_sheet : {i c : ℕ} → i < n → c < m → InSheet s m i c
   given_in_sheet l k = on_sheet (given_on_sheet k) l
 
+  -- at a chore's owner, as it was read
+  pub owner_in_sheet : {i c : ℕ} → c < m → i ≡ owner_of owners c → InSheet s m i c
+  owner_in_sheet {c = c} k e = given_in_sheet (rw e (owner_below g c k)) k
+
 -- single tests
 
 module _ (s owners : List ℕ) (j i c : ℕ) where
@@ -66,36 +70,13 @@ module _ (s distances : List ℕ) (limit c j : ℕ) where
       let both = and_elim (ltb (get_or distances j 0) limit) (marks_easy s j c) e in
       (ltb-true (get_or distances j 0) limit both.0, both.1)
 
-  pub takes_far : limit ≤ get_or distances j 0 → takes s distances limit c j ≡ false
-  unfolding takes
-  takes_far far = and_no_left _ (le-ltb (get_or distances j 0) limit far)
-
-  pub takes_hard : marks_easy s j c ≡ false → takes s distances limit c j ≡ false
-  unfolding takes
-  takes_hard hard = and_no_right (ltb (get_or distances j 0) limit) hard
-
--- r is what the search for a taker of chore c comes to
 module _ (s owners distances : List ℕ) (n c : ℕ) where
-  pub wasted_hit : {r : ℕ} → marks_easy s (owner_of owners c) c ≡ false → r ≡ first_below n (takes s distances no_distance c) → r < n → wasted s owners distances n c ≡ true
-  unfolding wasted
-  wasted_hit hard e l = and_intro (not_on hard) (any_first n _ ∙ lt-ltb _ n (rw e at l))
-
   pub wasted_elim : wasted s owners distances n c ≡ true → (marks_easy s (owner_of owners c) c ≡ false) × (any_below n (takes s distances no_distance c) ≡ true)
   unfolding wasted
   wasted_elim e =
       let both = and_elim (not (marks_easy s (owner_of owners c) c)) (any_below n (takes s distances no_distance c)) e in
       (not-true (marks_easy s (owner_of owners c) c) both.0, both.1)
 
-  pub wasted_none : {r : ℕ} → r ≡ first_below n (takes s distances no_distance c) → n ≤ r → wasted s owners distances n c ≡ false
-  unfolding wasted
-  wasted_none e l =
-      and_no_right (not (marks_easy s (owner_of owners c) c)) (any_first n _ ∙ le-ltb _ n (rw e at l))
-
-  pub wasted_easy : marks_easy s (owner_of owners c) c ≡ true → wasted s owners distances n c ≡ false
-  unfolding wasted
-  wasted_easy easy = and_no_left _ (not_off easy)
-
--- h's own chore c that is easy for it: r is what the search for a taker comes to
 module _ (s owners distances : List ℕ) (n limit h c : ℕ) where
   pub passable_elim : passable s owners distances n limit h c ≡ true → (owner_of owners c ≡ h) × (marks_easy s h c ≡ true) × (any_below n (takes s distances limit c) ≡ true)
   unfolding passable
@@ -104,25 +85,9 @@ module _ (s owners distances : List ℕ) (n limit h c : ℕ) where
       let two = and_elim (marks_easy s h c) (any_below n (takes s distances limit c)) both.1 in
       (owned (owner_of owners) h c both.0, two.0, two.1)
 
-  pub passable_other : (owner_of owners c ≡ h → ⊥) → passable s owners distances n limit h c ≡ false
-  unfolding passable
-  passable_other other = and_no_left _ (owned_not (owner_of owners) h c other)
-
-  pub passable_hard : marks_easy s h c ≡ false → passable s owners distances n limit h c ≡ false
-  unfolding passable
-  passable_hard hard = and_no_right (owns (owner_of owners) h c) (and_no_left _ hard)
-
-  pub passable_none : {r : ℕ} → r ≡ first_below n (takes s distances limit c) → n ≤ r → passable s owners distances n limit h c ≡ false
-  unfolding passable
-  passable_none e l =
-      and_no_right (owns (owner_of owners) h c) (and_no_right (marks_easy s h c) (any_first n _ ∙ le-ltb _ n (rw e at l)))
-
   pub passable_intro : owner_of owners c ≡ h → marks_easy s h c ≡ true → any_below n (takes s distances limit c) ≡ true → passable s owners distances n limit h c ≡ true
   unfolding passable
   passable_intro mine easy some = and_intro (owned_by (owner_of owners) h c mine) (and_intro easy some)
-
-  pub passable_hit : {r : ℕ} → owner_of owners c ≡ h → marks_easy s h c ≡ true → r ≡ first_below n (takes s distances limit c) → r < n → passable s owners distances n limit h c ≡ true
-  passable_hit mine easy e l = passable_intro mine easy (any_first n _ ∙ lt-ltb _ n (rw e at l))
 
 -- whole searches, and the definitions
 

@@ -1,14 +1,18 @@
 -- Laws of the walk, as the code takes it: each chore that is looked for is there, and the list at the end dominates.
 -- Assumes nothing.
 use Prim.Native.Nat.{ℕ, suc, ◌+◌, ◌-◌, ◌≤◌, ◌<◌}
-use mathlib.Core.Bool.{Bool, true, false}
-use mathlib.Core.List.{List}
+use mathlib.Core.Bool.{true, false}
+use mathlib.Core.List.{List, ◌++◌}
 use mathlib.Core.Path.{◌≡◌, refl, sym, ap, ◌∙◌}
+use native.Mathlib.Nat.{le_refl}
 use native.Mathlib.Omega.{arith}
 use lib.ListN.{length, get_or, set, take, drop, length-set}
 use lib.Seq.{length-take-le, get_or-take, get_or-set_same, get_or-set_other, drop-set-lt}
 use borrow.Author.Tests.{ltb-true, leb-true, le-leb}
-use Rattle.finite.specs.Search.{any_below, first_below}
+use Rattle.std.specs.Prelude.{Option, Some, is_some}
+use Rattle.std.proofs.lemmas.List.{get_or_append_left, length-append, length-drop}
+use Rattle.std.proofs.lemmas.Slice.{drop-append-drop}
+use Rattle.finite.specs.Search.{any_below, first_below, if_below, First}
 use Rattle.finite.specs.Moves.{Moves}
 use Rattle.finite.proofs.Tests.{clash}
 use Rattle.finite.proofs.Below.{by_same, by_less}
@@ -26,20 +30,14 @@ use Rattle.welfare.proofs.Moves.{set_moves}
 use Rattle.welfare.proofs.Walk.{start_apart, walk_start, walk_holds, step_holds, step_apart, walk_step, walk_back, walk_end}
 use Rattle.given.specs.Given.{Given}
 use Rattle.given.specs.Burdens.{burdens}
-use Rattle.given.proofs.Burdens.{burdens_elim, burdened_search}
+use Rattle.given.proofs.Burdens.{burdens_elim, burdened_any}
 use Rattle.waste.specs.Rings.{no_distance, Rings}
 use Rattle.waste.specs.Tests.{takes, passable}
-use Rattle.waste.specs.Walk.{Copied, Wasting, Away, HandedOn, Relieved, OnTheWay}
+use Rattle.waste.specs.Walk.{Wasting, Away, HandedOn, Relieved, OnTheWay}
+use Rattle.given.proofs.Found.{any_found, found_first}
 use Rattle.given.proofs.Given.{owner_agent}
 use Rattle.waste.proofs.Tests.{takes_hit, takes_elim, passable_intro, passable_elim}
 use Rattle.waste.proofs.Rings.{rings_at_most, rings_reached, rings_nearest}
-
--- a search that is known to find
-found_below : {n r : ℕ} (t : ℕ → Bool) → r ≡ first_below n t → any_below n t ≡ true → r < n
-found_below {n} t e h = rw e (ltb-true (first_below n t) n (sym (any_first n t) ∙ h))
-
-found_passes : {n r : ℕ} (t : ℕ → Bool) → r ≡ first_below n t → r < n → t r ≡ true
-found_passes {n} t e l = rw e (first_passes n t (rw e at l))
 
 -- an agent away from the burdened can hand a chore on
 module _ {s owners distances : List ℕ} {n m h : ℕ} (g : Given s owners n m) (rings : Rings (as_marked s) (owner_of owners) n distances) (away : Away distances n h) where
@@ -63,32 +61,46 @@ module _ {s owners distances : List ℕ} {n m h : ℕ} (g : Given s owners n m) 
       let taker = any_intro (takes s distances (get_or distances h 0) e) j inside (takes_hit s distances (get_or distances h 0) e j (omega (arith, top)) r.easy_there_lem) in
       any_intro (passable s owners distances n (get_or distances h 0) h) e below (passable_intro s owners distances n (get_or distances h 0) h e r.owner r.easy_here_lem taker)
 
-  -- e is the chore that the search for one comes to, and r the agent that takes it
-  module _ {e : ℕ} (first : e ≡ first_below m (passable s owners distances n (get_or distances h 0) h)) where
-    pub passed_chore : e < m
-    passed_chore = found_below (passable s owners distances n (get_or distances h 0) h) first passable_some
+  -- what the search for a chore answers: some chore e
+  module _ {o : Option ℕ} (search : o ≡ if_below m (first_below m (passable s owners distances n (get_or distances h 0) h))) where
+    pub passed_some : is_some o ≡ true
+    passed_some = ap is_some search ∙ any_found m (passable s owners distances n (get_or distances h 0) h) ∙ passable_some
 
-    passed : (owner_of owners e ≡ h) × (marks_easy s h e ≡ true) × (any_below n (takes s distances (get_or distances h 0) e) ≡ true)
-    passed =
-        passable_elim s owners distances n (get_or distances h 0) h e (found_passes (passable s owners distances n (get_or distances h 0) h) first passed_chore)
+    module _ {e : ℕ} (first : o ≡ Some e) where
+      passed_first : First m (passable s owners distances n (get_or distances h 0) h) e
+      passed_first = found_first (passable s owners distances n (get_or distances h 0) h) (sym first ∙ search)
 
-    module _ {r : ℕ} (taker : r ≡ first_below n (takes s distances (get_or distances h 0) e)) where
-      pub passed_taker : r < n
-      passed_taker = found_below (takes s distances (get_or distances h 0) e) taker passed.2
+      pub passed_chore : e < m
+      passed_chore = passed_first.below
 
-      pub passed_on : (list : List ℕ) → HandedOn s owners distances list (set list e (r + 1)) n m h r
-      passed_on list =
-          let both = takes_elim s distances (get_or distances h 0) e r (found_passes (takes s distances (get_or distances h 0) e) taker passed_taker) in
-          record {
-            chore = e;
-            below = passed_chore;
-            mine = passed.0;
-            easy_here = passed.1;
-            easy_there = both.1;
-            taker = passed_taker;
-            nearer = both.0;
-            written = refl;
-          }
+      passed : (owner_of owners e ≡ h) × (marks_easy s h e ≡ true) × (any_below n (takes s distances (get_or distances h 0) e) ≡ true)
+      passed = passable_elim s owners distances n (get_or distances h 0) h e passed_first.passes
+
+      -- and what the search for an agent that takes it does: some agent r
+      module _ {q : Option ℕ} (taking : q ≡ if_below n (first_below n (takes s distances (get_or distances h 0) e))) where
+        pub taker_some : is_some q ≡ true
+        taker_some = ap is_some taking ∙ any_found n (takes s distances (get_or distances h 0) e) ∙ passed.2
+
+        module _ {r : ℕ} (taker : q ≡ Some r) where
+          taker_first : First n (takes s distances (get_or distances h 0) e) r
+          taker_first = found_first (takes s distances (get_or distances h 0) e) (sym taker ∙ taking)
+
+          pub passed_taker : r < n
+          passed_taker = taker_first.below
+
+          pub passed_on : (list : List ℕ) → HandedOn s owners distances list (set list e (r + 1)) n m h r
+          passed_on list =
+              let both = takes_elim s distances (get_or distances h 0) e r taker_first.passes in
+              record {
+                chore = e;
+                below = passed_chore;
+                mine = passed.0;
+                easy_here = passed.1;
+                easy_there = both.1;
+                taker = passed_taker;
+                nearer = both.0;
+                written = refl;
+              }
 
 -- what the walk leaves: entries that are agents' numbers, better for some and worse for nobody, and the rest as it was
 pub record Shown (s owners old new : List ℕ) (m : ℕ) : Type 0 where
@@ -114,15 +126,6 @@ shown_dominating {s} {owners} {old} {new} chores w =
       kept = rw chores at w.kept;
     }
 
--- the rest of the list is kept by the copy, too, and by what is written below m
-pub copied_kept : {s owners old mid : List ℕ} {n m : ℕ} → Given s owners n m → Copied owners old mid → (c v : ℕ) → c < m → drop m (set mid c v) ≡ drop m old
-copied_kept {old = old} {mid} {m = m} g copied c v l =
-    drop-set-lt m mid c v l ∙ rw g.size at copied.kept
-
-pub shown_from : {s owners older old new : List ℕ} {m : ℕ} → drop m old ≡ drop m older → Shown s owners old new m → Shown s owners older new m
-shown_from e w =
-    record { long = w.long; positive = w.positive; range = w.range; better = w.better; kept = w.kept ∙ e }
-
 -- the walk
 
 module _ {s owners distances : List ℕ} {n m : ℕ} (g : Given s owners n m) (rings : Rings (as_marked s) (owner_of owners) n distances) where
@@ -138,12 +141,15 @@ module _ {s owners distances : List ℕ} {n m : ℕ} (g : Given s owners n m) (r
   chore l = omega (arith, g.chores)
 
   module _ {c : ℕ} (below : c < m) (hard : marks_easy s (owner_of owners c) c ≡ false) where
-    -- c has been handed to j, on a copy of the owners
-    pub way_start : {j : ℕ} {old mid : List ℕ} → Wasting s owners distances n m c j → Copied owners old mid → m ≤ length mid → OnTheWay s owners distances (set mid c (j + 1)) (set mid c (j + 1)) m c j
+    -- c has been handed to j, on a copy of the owners in front of the rest of the list
+    pub way_start : {j : ℕ} {old : List ℕ} → Wasting s owners distances n m c j → m ≤ length old → OnTheWay s owners distances old (set (owners ++ drop m old) c (j + 1)) m c j
     unfolding as_marked owner_of
-    way_start {j} {mid = mid} w copied long =
-        let same : (d : ℕ) → d < m → owner_of mid d ≡ owner_of owners d = λ d l. ap (λ v. v - 1) (copied.each d (omega (arith, g.size))) in
-        let h = set_moves mid c j long below (same c below) (start_apart (as_marked s) (owner_of owners) c (chore below) hard (owner_agent g) j w.easy) in
+    way_start {j} {old} w long =
+        let mid = owners ++ drop m old in
+        let entry : (d : ℕ) → d < m → get_or mid d 0 ≡ get_or owners d 0 = λ d l. get_or_append_left owners (drop m old) 0 d (omega (arith, g.size)) in
+        let same : (d : ℕ) → d < m → owner_of mid d ≡ owner_of owners d = λ d l. ap (λ v. v - 1) (entry d l) in
+        let size : length mid ≡ length old = simp (length-append, length-drop) (omega (arith, g.size)) in
+        let h = set_moves mid c j (omega (arith, size)) below (same c below) (start_apart (as_marked s) (owner_of owners) c (chore below) hard (owner_agent g) j w.easy) in
         let move : Moves (chores_of s) (owner_of owners) (owner_of (set mid c (j + 1))) c (owner_of owners c) j =
         record {
           below = chore below;
@@ -155,13 +161,13 @@ module _ {s owners distances : List ℕ} {n m : ℕ} (g : Given s owners n m) (r
         record {
           walking =
               walk_start (as_marked s) (owner_of owners) c (chore below) hard (owner_agent g) (owner_of (set mid c (j + 1))) j (get_or distances j 0) (agent w.taker) w.easy (rings_reached rings few j (agent w.taker) w.has) (rings_nearest rings few j (agent w.taker) w.has) move;
-          size = refl;
-          long = simp length-set long;
+          size = simp length-set size;
+          long = simp length-set (omega (arith, size));
           positive = λ d l.
               by_same d c
-              (λ q. rw (q, get_or-set_same mid c (j + 1) 0 (omega arith)) (omega arith))
-              (λ ne. rw (get_or-set_other mid c d (j + 1) 0 ne, copied.each d (omega (arith, g.size))) (g.positive d l));
-          kept = refl;
+              (λ q. rw (q, get_or-set_same mid c (j + 1) 0 (omega (arith, size))) (omega arith))
+              (λ ne. rw (get_or-set_other mid c d (j + 1) 0 ne, entry d l) (g.positive d l));
+          kept = drop-set-lt m mid c (j + 1) below ∙ drop-append-drop m old owners m (le_refl _) g.size;
         }
 
     module _ {old list : List ℕ} {h : ℕ} (w : OnTheWay s owners distances old list m c h) where
@@ -211,7 +217,8 @@ module _ {s owners distances : List ℕ} {n m : ℕ} (g : Given s owners n m) (r
       module _ (arrived : get_or distances h 0 ≡ 0) where
         pub way_burden : first_below m (burdens s owners h) < m
         way_burden =
-            ltb-true (first_below m (burdens s owners h)) m (sym (burdened_search g h) ∙ sym (connected_zero (as_marked s) (owner_of owners) h) ∙ rw arrived at w.walking.reached)
+            ltb-true (first_below m (burdens s owners h)) m
+            (sym (any_first m (burdens s owners h)) ∙ sym (burdened_any g h) ∙ sym (connected_zero (as_marked s) (owner_of owners) h) ∙ rw arrived at w.walking.reached)
 
         -- the owner of c itself has been relieved
         way_back : h ≡ owner_of owners c → Shown s owners old list m

@@ -8,11 +8,6 @@ use Rattle.given.specs.Given.{Given}
 use Rattle.given.specs.Burdens.{burdens}
 use Rattle.waste.specs.Rings.{no_distance, Rings}
 
--- the owners stand at the front of the list, whose rest is as it was
-pub record Copied (owners old new : List ℕ) : Type 0 where
-  pub each : (d : ℕ) → d < length owners → get_or new d 0 ≡ get_or owners d 0
-  pub kept : drop (length owners) new ≡ drop (length owners) old
-
 -- a sheet, an owner list, all distances, and room for a list
 pub record Walkable (s owners distances list : List ℕ) (n m : ℕ) : Type 0 where
   pub given : Given s owners n m

@@ -2,7 +2,7 @@
 // agent; and in how few steps.
 
 ghost use Rattle.std.specs.Prelude.{◌≡◌, ◌+◌, ◌<◌, ◌&&◌, length};
-ghost use Rattle.finite.specs.Search.{first_below};
+ghost use Rattle.finite.specs.Search.{first_below, if_below};
 ghost use Rattle.model.specs.Limits.{max_agents};
 ghost use Rattle.model.specs.Instance.{owner_of};
 ghost use Rattle.model.specs.Sheet.{agents_of, marks_easy, as_marked};
@@ -13,13 +13,6 @@ ghost use Rattle.waste.specs.Tests.{takes, wasted, OnSheet, BothOnSheet};
 
 // The entry of an agent without a distance. Distances are below the number of agents.
 pub const NO_DISTANCE: u8 = 255;
-
-// Made in a function of its own, so that its entries are one value where it is used.
-pub fn no_distances() -> [u8; model::MAX_AGENTS]
-    ensures { length result ≡ max_agents }
-{
-    [NO_DISTANCE; model::MAX_AGENTS]
-}
 
 // Distance 0: the agents that own a chore difficult for them.
 fn first_ring(
@@ -33,14 +26,12 @@ fn first_ring(
     requires distances_len { length distances.old ≡ max_agents }
     ensures { Rings (as_marked sheet.now) (owner_of owners.now) 0 distances.new }
 {
-    let mut i = 0;
-    while i < n {
-        distances[i] = if given::first_burden(sheet, owners, m, i) < m {
+    for i in 0..n {
+        distances[i] = if given::first_burden(sheet, owners, m, i).is_some() {
             0
         } else {
             NO_DISTANCE
         };
-        i += 1;
     }
 }
 
@@ -66,15 +57,11 @@ fn spread_from(
     requires distances_len { length distances.old ≡ max_agents }
     ensures { Spread (agents_of sheet.now) next (λ i. passes_on (as_marked sheet.now) (owner_of owners.now) i j) distances.old distances.new }
 {
-    let mut c = 0;
-    while c < m {
+    for c in 0..m {
         let i = given::owner(owners, c);
-        if distances[i] == NO_DISTANCE {
-            if easy_for_both(sheet, m, i, j, c) {
-                distances[i] = next;
-            }
+        if distances[i] == NO_DISTANCE && easy_for_both(sheet, m, i, j, c) {
+            distances[i] = next;
         }
-        c += 1;
     }
 }
 
@@ -92,37 +79,27 @@ fn next_ring(
     requires rings { Rings (as_marked sheet.now) (owner_of owners.now) t distances.old }
     ensures { Rings (as_marked sheet.now) (owner_of owners.now) (t + 1) distances.new }
 {
-    let mut j = 0;
-    while j < n {
+    for j in 0..n {
         if distances[j] == t {
             spread_from(sheet, owners, m, j, t + 1, distances);
         }
-        j += 1;
     }
 }
 
 // All rings: n of them hold every agent that any number would.
-pub fn find_distances(
-    sheet: &[u8],
-    owners: &[u8],
-    n: usize,
-    m: usize,
-    distances: &mut [u8; model::MAX_AGENTS],
-)
-    requires given { Given sheet.now owners.now n m }
-    requires distances_len { length distances.old ≡ max_agents }
-    ensures { Rings (as_marked sheet.now) (owner_of owners.now) n distances.new }
+pub fn find_distances(sheet: &[u8], owners: &[u8], n: usize, m: usize) -> [u8; model::MAX_AGENTS]
+    requires { Given sheet.now owners.now n m }
+    ensures { Rings (as_marked sheet.now) (owner_of owners.now) n result }
 {
-    first_ring(sheet, owners, n, m, distances);
-    let mut t: u8 = 0;
-    while (t as usize) < n {
-        next_ring(sheet, owners, n, m, t, distances);
-        t += 1;
+    let mut distances = [NO_DISTANCE; model::MAX_AGENTS];
+    first_ring(sheet, owners, n, m, &mut distances);
+    for t in 0..n as u8 {
+        next_ring(sheet, owners, n, m, t, &mut distances);
     }
+    distances
 }
 
-// The first agent nearer than the limit that finds chore c easy, n where there is none. Every agent with a distance is nearer than
-// NO_DISTANCE.
+// The first agent nearer than the limit that finds chore c easy. Every agent with a distance is nearer than NO_DISTANCE.
 pub fn first_taker(
     sheet: &[u8],
     n: usize,
@@ -130,42 +107,26 @@ pub fn first_taker(
     distances: &[u8; model::MAX_AGENTS],
     limit: u8,
     c: usize,
-) -> usize
+) -> Option<usize>
     requires { OnSheet sheet.now n m c }
-    ensures { result ≡ first_below n (takes sheet.now distances.now limit c) }
+    ensures { result ≡ if_below n (first_below n (takes sheet.now distances.now limit c)) }
 {
-    let mut j = 0;
-    while j < n {
-        if distances[j] < limit {
-            if sheet::marks_easy(sheet, m, j, c) {
-                return j;
-            }
-        }
-        j += 1;
-    }
-    n
+    (0..n).find(|&j| distances[j] < limit && sheet::marks_easy(sheet, m, j, c))
 }
 
-// The first chore that is difficult for its owner and easy for a connected agent, m where there is none.
+// The first chore that is difficult for its owner and easy for a connected agent.
 pub fn first_wasted(
     sheet: &[u8],
     owners: &[u8],
     n: usize,
     m: usize,
     distances: &[u8; model::MAX_AGENTS],
-) -> usize
+) -> Option<usize>
     requires { Given sheet.now owners.now n m }
-    ensures { result ≡ first_below m (wasted sheet.now owners.now distances.now n) }
+    ensures { result ≡ if_below m (first_below m (wasted sheet.now owners.now distances.now n)) }
 {
-    let mut c = 0;
-    while c < m {
-        let i = given::owner(owners, c);
-        if !sheet::marks_easy(sheet, m, i, c) {
-            if first_taker(sheet, n, m, distances, NO_DISTANCE, c) < n {
-                return c;
-            }
-        }
-        c += 1;
-    }
-    m
+    (0..m).find(|&c| {
+        !sheet::marks_easy(sheet, m, given::owner(owners, c), c)
+            && first_taker(sheet, n, m, distances, NO_DISTANCE, c).is_some()
+    })
 }

@@ -2,7 +2,7 @@
 #![tactic(auto)]
 
 mod connected;
-pub mod walk;
+mod walk;
 
 ghost use Rattle.std.specs.Prelude.{◌≤◌, length};
 ghost use Rattle.given.specs.Given.{Given};
@@ -14,13 +14,11 @@ pub fn show_waste(sheet: &[u8], owners: &[u8], n: usize, m: usize, dominating: &
     requires m_in_bounds { m ≤ length dominating.old }
     ensures { WasteShown sheet.now owners.now dominating.old dominating.new result }
 {
-    let mut distances = connected::no_distances();
-    connected::find_distances(sheet, owners, n, m, &mut distances);
-    let c = connected::first_wasted(sheet, owners, n, m, &distances);
-    if m <= c {
+    let distances = connected::find_distances(sheet, owners, n, m);
+    let Some(c) = connected::first_wasted(sheet, owners, n, m, &distances) else {
         return false;
-    }
-    let j = connected::first_taker(sheet, n, m, &distances, connected::NO_DISTANCE, c);
+    };
+    let j = connected::first_taker(sheet, n, m, &distances, connected::NO_DISTANCE, c).unwrap();
     walk::write_dominating(sheet, owners, n, m, &distances, c, j, dominating);
     true
 }

@@ -1,5 +1,5 @@
 -- `evenness::add_byte` meets its contract. The loop's invariant: the chores passed are added up.
-use Prim.Native.Nat.{◌+◌, ◌-◌, ◌≤◌}
+use Prim.Native.Nat.{◌+◌}
 use Rattle.finite.specs.Lists.{Table}
 use Rattle.model.specs.Limits.{max_agents}
 use Rattle.model.specs.Instance.{cost, owner_of}
@@ -8,7 +8,4 @@ use Rattle.model.specs.Fairness.{total}
 use Rattle.evenness.proofs.add_byte.Given as goal
 
 abbrev pub invariant-loop-j : goal.invariant-loop-j
-invariant-loop-j l = (l.j ≤ l.count) × Table max_agents (total (l.first + l.j) (owner_of l.owners) (cost (as_marked l.sheet) l.i)) l.sums
-
-abbrev pub decreases-loop-j : goal.decreases-loop-j
-decreases-loop-j l = l.count - l.j
+invariant-loop-j l = Table max_agents (total (l.first + l.j) (owner_of l.owners) (cost (as_marked l.sheet) l.i)) l.sums

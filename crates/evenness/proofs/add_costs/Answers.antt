@@ -1,4 +1,4 @@
-use Prim.Native.Nat.{◌+◌, ◌-◌}
+use Prim.Native.Nat.{◌+◌, ◌-◌, ◌*◌, ◌%◌}
 use mathlib.Core.Path.{◌≡◌}
 use native.Mathlib.Omega.{arith}
 use Rattle.finite.proofs.Sweeps.{sums_none}
@@ -6,23 +6,18 @@ use Rattle.model.specs.Sheet.{chores_of, as_marked}
 use Rattle.model.specs.Fairness.{owns, total, cost_to}
 use Rattle.evenness.proofs.add_costs.Goals as goal
 
-pub loop-c-init : goal.loop-c-init
+pub loop-k-init : goal.loop-k-init
 unfolding total owns
-loop-c-init c = (omega arith, omega arith, sums_none _ _ c.requires.sums_value)
+loop-k-init c = sums_none _ _ c.requires.sums_value
 
-pub loop-c-preserved : goal.loop-c-preserved
-loop-c-preserved c = let loop = c.loop-c in (omega arith, omega (arith, loop.invariant.1), c.add_byte.ensures)
-
-pub returns-then-c-m : goal.returns-then-c-m
+pub returns-then-rest-gt0 : goal.returns-then-rest-gt0
 unfolding cost_to as_marked
-returns-then-c-m c =
-    let loop = c.loop-c in
-    let all : loop.c + (c.args.m - loop.c) ≡ chores_of c.args.sheet.now = omega (arith, c.requires.given.chores, loop.invariant.0) in
-    rw all at c.add_byte-then-c-m.ensures
+returns-then-rest-gt0 c =
+    let all : c.args.m - c.args.m % 8 + c.args.m % 8 ≡ chores_of c.args.sheet.now = omega (arith, c.requires.given.chores) in
+    rw all at c.add_byte-then-rest-gt0.ensures
 
-pub returns-else-c-m : goal.returns-else-c-m
+pub returns-else-rest-gt0 : goal.returns-else-rest-gt0
 unfolding cost_to as_marked
-returns-else-c-m c =
-    let loop = c.loop-c in
-    let all : loop.c ≡ chores_of c.args.sheet.now = omega (arith, c.requires.given.chores, loop.invariant.0) in
-    rw all at loop.invariant.2
+returns-else-rest-gt0 c =
+    let all : 8 * c.loop-k.k ≡ chores_of c.args.sheet.now = omega (arith, c.requires.given.chores) in
+    rw all at c.loop-k.invariant

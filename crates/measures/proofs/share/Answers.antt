@@ -1,4 +1,5 @@
 -- `measures::share` meets its contract: the costliest bundle when difficult chores are dealt, and then easy ones.
+use mathlib.Core.Path.{refl}
 use Rattle.measures.proofs.Measuring.{few-marks, first_dealing, second_dealing, share_found}
 use Rattle.measures.proofs.share.Goals as goal
 
@@ -17,13 +18,13 @@ pub overflow_sub-easy : goal.overflow_sub-easy
 overflow_sub-easy c = few-marks c.requires c.difficult_marks-difficult.ensures
 
 pub deal-requires : goal.deal-requires
-deal-requires c = first_dealing c.requires c.difficult_marks-difficult.ensures c.difficult_weight-b.ensures.is c.zeros-costs.ensures
+deal-requires c = first_dealing c.requires c.difficult_marks-difficult.ensures c.difficult_weight-b.ensures.is refl
 
 pub deal-requires-2 : goal.deal-requires-2
-deal-requires-2 c = second_dealing c.requires c.difficult_marks-difficult.ensures c.difficult_weight-b.ensures.is c.zeros-costs.ensures c.easy_weight-a.ensures.is c.deal.ensures
+deal-requires-2 c = second_dealing c.requires c.difficult_marks-difficult.ensures c.difficult_weight-b.ensures.is refl c.easy_weight-a.ensures.is c.deal.ensures
 
 pub costliest-requires : goal.costliest-requires
-costliest-requires c = (first_dealing c.requires c.difficult_marks-difficult.ensures c.difficult_weight-b.ensures.is c.zeros-costs.ensures).agents
+costliest-requires c = (first_dealing c.requires c.difficult_marks-difficult.ensures c.difficult_weight-b.ensures.is refl).agents
 
 pub returns : goal.returns
-returns c = share_found c.requires c.difficult_marks-difficult.ensures c.difficult_weight-b.ensures.is c.zeros-costs.ensures c.easy_weight-a.ensures.is c.deal.ensures c.deal-2.ensures c.costliest.ensures
+returns c = share_found c.requires c.difficult_marks-difficult.ensures c.difficult_weight-b.ensures.is refl c.easy_weight-a.ensures.is c.deal.ensures c.deal-2.ensures c.costliest.ensures

@@ -1,39 +1,41 @@
 -- `pricecheck::check_prices` meets its contract: each answer by its law.
 use mathlib.Core.Path.{◌≡◌, refl, sym, ◌∙◌}
 use Rattle.model.specs.Refusals.{price_refusal}
+use Rattle.model.proofs.Refusing.{left}
 use Rattle.given.proofs.Given.{given_few}
 use Rattle.pricecheck.specs.Parts.{PricesGiven}
 use Rattle.pricecheck.proofs.Refusals.{prices_given, given_held}
-use Rattle.pricecheck.proofs.Envy.{check_refused, check_off, check_on}
-use Rattle.pricecheck.proofs.Checked.{checked}
+use Rattle.pricecheck.proofs.Envy.{check_off, check_on}
+use Rattle.pricecheck.proofs.Searched.{ended_some, ended_none}
+use Rattle.pricecheck.proofs.Checked.{checked, not_checked}
 use Rattle.pricecheck.proofs.check_prices.Goals as goal
-use Rattle.pricecheck.proofs.check_prices.Goals.{Else-refused-ne0, After-chores-m}
+use Rattle.pricecheck.proofs.check_prices.Goals.{In_ok-admit, After-chores-m}
 
 -- the lists are not turned down
-judged : (c : Else-refused-ne0) → price_refusal c.args.sheet.now c.args.owners.now c.args.prices.now ≡ 0
-judged c = sym c.price_refusal-refused.ensures ∙ c.if-refused-ne0.false
+judged : (c : In_ok-admit) → price_refusal c.args.sheet.now c.args.owners.now c.args.prices.now ≡ 0
+judged c = sym c.in_ok-admit.ensures
 
 given : (c : After-chores-m) → PricesGiven c.args.sheet.now c.args.owners.now c.args.prices.now c.agents-n.result c.chores-m.result
 given c =
-    let not_refused = sym c.price_refusal-refused.ensures ∙ c.if-refused-ne0.false in
-    prices_given _ _ _ not_refused c.agents-n.ensures.is c.chores-m.ensures.is
+    prices_given _ _ _ (sym c.in_ok-admit.ensures) c.agents-n.ensures.is c.chores-m.ensures.is
 
-pub returns-then-refused-ne0 : goal.returns-then-refused-ne0
-returns-then-refused-ne0 c = checked (check_refused _ _ _ c.price_refusal-refused.ensures c.if-refused-ne0.true)
+pub returns-in_err-admit : goal.returns-in_err-admit
+returns-in_err-admit c = not_checked (left c.from_residual.result _ c.from_residual.ensures.1 c.in_err-admit.ensures)
 
 pub agents-n-requires : goal.agents-n-requires
-agents-n-requires c = (prices_given _ _ _ (judged (goal.at.agents-n-requires c).Else-refused-ne0) refl refl).given.valid.header
+agents-n-requires c = (prices_given _ _ _ (judged (goal.at.agents-n-requires c).In_ok-admit) refl refl).given.valid.header
 
 pub chores-m-requires : goal.chores-m-requires
-chores-m-requires c = (prices_given _ _ _ (judged (goal.at.chores-m-requires c).Else-refused-ne0) refl refl).given.valid.header
+chores-m-requires c = (prices_given _ _ _ (judged (goal.at.chores-m-requires c).In_ok-admit) refl refl).given.valid.header
 
-pub first_off_price-c-requires : goal.first_off_price-c-requires
-first_off_price-c-requires c = given (goal.at.first_off_price-c-requires c).After-chores-m
+pub first_off_price-requires : goal.first_off_price-requires
+first_off_price-requires c = given (goal.at.first_off_price-requires c).After-chores-m
 
-pub returns-then-c-m : goal.returns-then-c-m
-returns-then-c-m c =
-    let at = goal.at.returns-then-c-m c in
-    checked (check_off _ _ _ (judged at.Else-refused-ne0) (given at.After-chores-m) c.first_off_price-c.ensures c.if-c-m.true)
+pub returns-in-Some : goal.returns-in-Some
+returns-in-Some c =
+    let at = goal.at.returns-in-Some c in
+    let off = ended_some c.in-Some.ensures.is in
+    checked (check_off _ _ _ (judged at.In_ok-admit) (given at.After-chores-m) off.1 off.0)
 
 pub envy_verdict-requires : goal.envy_verdict-requires
 envy_verdict-requires c =
@@ -43,4 +45,4 @@ envy_verdict-requires c =
 pub returns : goal.returns
 returns c =
     let at = goal.at.returns c in
-    checked (check_on _ _ _ (judged at.Else-refused-ne0) (given at.After-chores-m) c.first_off_price-c.ensures c.if-c-m.false c.envy_verdict.ensures)
+    checked (check_on _ _ _ (judged at.In_ok-admit) (given at.After-chores-m) refl (ended_none c.in_default.ensures.is) c.envy_verdict.ensures)

@@ -1,51 +1,31 @@
-use mathlib.Core.Bool.{not}
-use mathlib.Core.Path.{◌≡◌, sym, ap, ◌∙◌}
-use native.Mathlib.Omega.{arith}
-use lib.Dec.{leb}
-use lib.ListN.{get_or}
-use borrow.Author.Tests.{le-leb, lt-leb}
-use Rattle.finite.proofs.Search.{first_zero, first_stop, first_miss}
-use Rattle.given.proofs.Given.{given_few, given_owned}
+-- `pricecheck::first_off_price` meets its contract: the search tests what `Off` speaks of.
+use Rattle.std.proofs.Common.{rules, tests, ℕ, ◌<◌, ◌≡◌, ◌∙◌, cond, ap}
+use Rattle.std.proofs.lemmas.Iterator.{serves_from_Range}
+use Rattle.finite.specs.Search.{if_below}
+use Rattle.finite.proofs.Found.{found_in}
+use Rattle.given.proofs.Given.{given_owned}
+use Rattle.model.specs.Instance.{owner_of}
+use Rattle.model.specs.Sheet.{is_difficult}
 use Rattle.pricecheck.specs.Worths.{Rated}
 use Rattle.pricecheck.proofs.Refusals.{given_rated}
-use Rattle.pricecheck.proofs.Off.{is_off, first_off_is, owner_among, owner_marks, off_weighable, off_is}
+use Rattle.pricecheck.proofs.Off.{worth_less, owner_marks, off_weighable, off_first}
 use Rattle.pricecheck.proofs.first_off_price.Goals as goal
+use Rattle.pricecheck.proofs.first_off_price.Goals.{After-greatest_worths-greatest}
 
-pub loop-c-init : goal.loop-c-init
-loop-c-init c = (omega arith, first_zero _)
+rated : (c : After-greatest_worths-greatest) → Rated c.args.sheet.now c.args.prices.now c.args.m c.easy_weight-a.result c.difficult_weight-b.result
+rated c = given_rated c.requires c.easy_weight-a.ensures.is c.difficult_weight-b.ensures.is
 
-pub owner-i-requires : goal.owner-i-requires
-owner-i-requires c = given_owned c.requires.given _ c.loop-c-test.true
+pub find-requires-clause-callable : goal.find-requires-clause-callable
+find-requires-clause-callable c =
+    let owners = c.args.owners.now in
+    let r = rated (goal.at.find-requires-clause-callable c).After-greatest_worths-greatest in
+    let owned = λ (x : ℕ) (l : x < c.args.m). given_owned c.requires.given x l in
+    let marks = λ (x : ℕ) (l : x < c.args.m) (i : ℕ) (o : i ≡ owner_of owners x). owner_marks c.requires x l o in
+    let weighs = λ (x : ℕ) (l : x < c.args.m) (i : ℕ) (o : i ≡ owner_of owners x) (mark : ℕ) (t : mark ≡ cond (is_difficult c.args.sheet.now i x) 1 0). off_weighable c.requires r x l o t in
+    serves_from_Range (λ x q r. search (rules, tests)) (λ x lo hi. search (rules, owned, marks, weighs))
 
-pub mark_at-requires : goal.mark_at-requires
-mark_at-requires c = owner_marks c.requires _ c.loop-c-test.true c.owner-i.ensures.is
-
-pub worth-value-requires : goal.worth-value-requires
-worth-value-requires c =
-    let rated : Rated c.args.sheet.now c.args.prices.now c.args.m c.easy_weight-a.result c.difficult_weight-b.result = given_rated c.requires c.easy_weight-a.ensures.is c.difficult_weight-b.ensures.is in
-    off_weighable c.requires rated _ c.loop-c-test.true c.owner-i.ensures.is c.mark_at.ensures
-
-pub bounds-greatest-i : goal.bounds-greatest-i
-bounds-greatest-i c =
-    let g = c.requires in
-    omega (arith, owner_among g _ c.loop-c-test.true c.owner-i.ensures.is, given_few g.given, c.greatest_worths-greatest.ensures.size)
-
-pub returns-then-value-greatest : goal.returns-then-value-greatest
-returns-then-value-greatest c =
-    let rated : Rated c.args.sheet.now c.args.prices.now c.args.m c.easy_weight-a.result c.difficult_weight-b.result = given_rated c.requires c.easy_weight-a.ensures.is c.difficult_weight-b.ensures.is in
-    let told : is_off c.args.sheet.now c.args.owners.now c.args.prices.now c.loop-c.c ≡ not (leb (get_or c.greatest_worths-greatest.result c.owner-i.result 0) c.worth-value.result) = off_is c.requires rated _ c.loop-c-test.true c.owner-i.ensures.is c.mark_at.ensures c.worth-value.ensures c.greatest_worths-greatest.ensures in
-    let off = told ∙ ap not (lt-leb _ _ c.if-value-greatest.true) in
-    sym (first_off_is c.requires ∙ first_stop _ c.loop-c.invariant.1 off c.loop-c-test.true)
-
-pub loop-c-preserved : goal.loop-c-preserved
-loop-c-preserved c =
-    let rated : Rated c.args.sheet.now c.args.prices.now c.args.m c.easy_weight-a.result c.difficult_weight-b.result = given_rated c.requires c.easy_weight-a.ensures.is c.difficult_weight-b.ensures.is in
-    let told : is_off c.args.sheet.now c.args.owners.now c.args.prices.now c.loop-c.c ≡ not (leb (get_or c.greatest_worths-greatest.result c.owner-i.result 0) c.worth-value.result) = off_is c.requires rated _ c.loop-c-test.true c.owner-i.ensures.is c.mark_at.ensures c.worth-value.ensures c.greatest_worths-greatest.ensures in
-    let loop = c.loop-c in
-    (omega arith, first_miss _ _ loop.invariant.1 (told ∙ ap not (le-leb _ _ c.if-value-greatest.false)))
-
-pub returns : goal.returns
-returns c =
-    let loop = c.loop-c in
-    let all : loop.c ≡ c.args.m = omega arith in
-    sym (first_off_is c.requires ∙ rw all at loop.invariant.1)
+pub returns-clause-is : goal.returns-clause-is
+returns-clause-is c =
+    let less = worth_less c.args.sheet.now c.args.owners.now c.args.prices.now c.easy_weight-a.result c.difficult_weight-b.result c.greatest_worths-greatest.result in
+    found_in c.args.m less _ _ c.find.result c.find.ensures.ran (λ x b q k. search (rules, tests))
+    ∙ ap (if_below c.args.m) (off_first c.requires (rated (goal.at.returns-clause-is c).After-greatest_worths-greatest) c.greatest_worths-greatest.ensures)

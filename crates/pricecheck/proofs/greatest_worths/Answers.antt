@@ -1,29 +1,32 @@
-use Prim.Native.Nat.{◌+◌, ◌*◌, ◌%◌}
+use Prim.Native.Nat.{◌+◌, ◌*◌, ◌/◌, ◌%◌}
 use mathlib.Core.Path.{◌≡◌}
 use native.Mathlib.Omega.{arith}
+use Rattle.std.proofs.Common.{rules}
 use Rattle.pricecheck.proofs.Worths.{greatest_none}
 use Rattle.pricecheck.proofs.greatest_worths.Goals as goal
 
 pub loop-k-init : goal.loop-k-init
 loop-k-init c =
     let pre = c.requires in
-    (omega arith, greatest_none (omega (arith, pre.n_value, pre.rated.weighed.valid.agents_fit)) c.zeros-greatest.ensures)
+    greatest_none (omega (arith, pre.n_value, pre.rated.weighed.valid.agents_fit)) (search rules)
 
 pub raise-requires : goal.raise-requires
-raise-requires c = let pre = c.requires in record { column = record { rated = pre.rated; agents = pre.n_value; few = omega arith; inside = omega (arith, c.loop-k-test.true) }; greatest = c.loop-k.invariant.1 }
+raise-requires c = let pre = c.requires in record { column = record { rated = pre.rated; agents = pre.n_value; few = omega arith; inside = omega (arith, c.loop-k-test.true) }; greatest = c.loop-k.invariant }
 
 pub loop-k-preserved : goal.loop-k-preserved
 loop-k-preserved c =
     let k = c.loop-k.k in
     let more : 8 * k + 8 ≡ 8 * (k + 1) = omega arith in
-    (omega arith, rw more at c.raise.ensures)
+    rw more at c.raise.ensures
 
 pub raise-requires-2 : goal.raise-requires-2
-raise-requires-2 c = let pre = c.requires in record { column = record { rated = pre.rated; agents = pre.n_value; few = omega arith; inside = omega (arith, c.loop-k.invariant.0) }; greatest = c.loop-k.invariant.1 }
+raise-requires-2 c =
+    let pre = c.requires in
+    let all : c.loop-k.k ≡ c.args.m / 8 = omega arith in
+    record { column = record { rated = pre.rated; agents = pre.n_value; few = omega arith; inside = omega arith }; greatest = rw all at c.loop-k.invariant }
 
 pub returns : goal.returns
 returns c =
-    let loop = c.loop-k in
     let m = c.args.m in
-    let all : 8 * loop.k + m % 8 ≡ m = omega arith in
+    let all : 8 * (m / 8) + m % 8 ≡ m = omega arith in
     rw all at c.raise-2.ensures

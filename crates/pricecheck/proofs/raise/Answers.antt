@@ -12,7 +12,7 @@ pub greatest_in_byte-most-requires : goal.greatest_in_byte-most-requires
 greatest_in_byte-most-requires c = column_eight c.requires.column
 
 pub loop-i-init : goal.loop-i-init
-loop-i-init c = (omega arith, rewritten_none _ _ _)
+loop-i-init c = rewritten_none _ _ _
 
 pub row_byte-byte-requires : goal.row_byte-byte-requires
 row_byte-byte-requires c = let col = c.requires.column in record { row_in_sheet = column_row col _ c.loop-i-test.true; k_bound = column_byte col _ c.greatest_in_byte-most.ensures c.if-known-most.true }
@@ -24,18 +24,16 @@ pub loop-i-preserved : goal.loop-i-preserved
 loop-i-preserved c =
     let loop = c.loop-i in
     let col = c.requires.column in
-    let same = loop.invariant.1.rest loop.i (le_refl _) in
+    let same = loop.invariant.rest loop.i (le_refl _) in
     let known = c.requires.greatest.each loop.i c.loop-i-test.true in
-    let room : loop.i < length c.args.greatest.now = omega (arith, c.requires.greatest.size, column_room col c.loop-i-test.true) in (
-      omega arith,
-      elim c.if-known-most.branch [
-        | then-known-most w ↦ rw w.greatest-is (rewritten_set loop.invariant.1 room refl (column_read col _ (same ∙ known) w.row_byte-byte.ensures.is w.greatest_in_byte.ensures))
-        | else-known-most w ↦ rw w.greatest-is (rewritten_keep loop.invariant.1 room (sym same ∙ column_passed col _ (same ∙ known) c.greatest_in_byte-most.ensures w.if-known-most.false))
-      ],
-    )
+    let room : loop.i < length c.args.greatest.now = omega (arith, c.requires.greatest.size, column_room col c.loop-i-test.true) in
+    elim c.if-known-most.branch [
+      | then-known-most w ↦ rw w.greatest-is (rewritten_set loop.invariant room refl (column_read col _ (same ∙ known) w.row_byte-byte.ensures.is w.greatest_in_byte.ensures))
+      | else-known-most w ↦ rw w.greatest-is (rewritten_keep loop.invariant room (sym same ∙ column_passed col _ (same ∙ known) c.greatest_in_byte-most.ensures w.if-known-most.false))
+    ]
 
 pub returns : goal.returns
 returns c =
     let loop = c.loop-i in
     let all : loop.i ≡ c.args.n = omega arith in
-    record { size = loop.invariant.1.sized ∙ c.requires.greatest.size; each = rewritten_at (rw all at loop.invariant.1) }
+    record { size = loop.invariant.sized ∙ c.requires.greatest.size; each = rewritten_at (rw all at loop.invariant) }

@@ -3,7 +3,4 @@ use Rattle.std.proofs.Common.{length, ◌-◌, ◌≤◌, ◌≡◌, ◌<◌, �
 use Rattle.totals.proofs.take_off.Given as goal
 
 abbrev pub invariant-loop-i : goal.invariant-loop-i
-invariant-loop-i l = (l.i ≤ l.n) × (length l.dearest ≡ length l.initial.dearest) × ((k : ℕ) → k < l.i → get_or l.dearest k 0 ≡ get_or l.sums k 0 - get_or l.initial.dearest k 0) × ((k : ℕ) → l.i ≤ k → get_or l.dearest k 0 ≡ get_or l.initial.dearest k 0)
-
-abbrev pub decreases-loop-i : goal.decreases-loop-i
-decreases-loop-i l = l.n - l.i
+invariant-loop-i l = (length l.dearest ≡ length l.initial.dearest) × ((k : ℕ) → k < l.i → get_or l.dearest k 0 ≡ get_or l.sums k 0 - get_or l.initial.dearest k 0) × ((k : ℕ) → l.i ≤ k → get_or l.dearest k 0 ≡ get_or l.initial.dearest k 0)

@@ -1,60 +1,17 @@
-use mathlib.Core.Path.{◌≡◌, refl}
-use native.Mathlib.Omega.{arith}
-use lib.Count.{count_trailing_zeros}
-use lib.Pow.{pow_pos}
-use Rattle.finite.proofs.LowestBit.{Lowest, lowest, rest_all, rest_next, kept_none, kept_all}
-use Rattle.firsts.specs.Traits.{trait_count}
-use Rattle.firsts.proofs.ByArithmetic.{kept_by}
+use Rattle.std.proofs.Common.{arith}
+use Rattle.firsts.proofs.Keeping.{keeping_none, keeping_below, keeping_next, keeping_all}
 use Rattle.firsts.proofs.rows.not_before.Goals as goal
 
-pub loop-rest-init : goal.loop-rest-init
-loop-rest-init c = (rest_all _, kept_none _ _ _)
-
-pub overflow_cast-t : goal.overflow_cast-t
-overflow_cast-t c =
-    let turn : Lowest trait_count 64 c.loop-rest.rest (count_trailing_zeros 64 c.loop-rest.rest) = lowest 64 (omega arith) c.requires.0.traits c.loop-rest.invariant.0 (omega arith) in
-    omega (arith, (turn).below)
-
-pub overflow_mul-w : goal.overflow_mul-w
-overflow_mul-w c = omega (arith, c.requires.0.agent)
-
-pub overflow_add-w : goal.overflow_add-w
-overflow_add-w c =
-    let turn : Lowest trait_count 64 c.loop-rest.rest (count_trailing_zeros 64 c.loop-rest.rest) = lowest 64 (omega arith) c.requires.0.traits c.loop-rest.invariant.0 (omega arith) in
-    omega (arith, (turn).below, c.requires.0.agent)
-
-pub offset_bounds-first-w : goal.offset_bounds-first-w
-offset_bounds-first-w c =
-    let turn : Lowest trait_count 64 c.loop-rest.rest (count_trailing_zeros 64 c.loop-rest.rest) = lowest 64 (omega arith) c.requires.0.traits c.loop-rest.invariant.0 (omega arith) in
-    omega (arith, (turn).below, c.requires.0.agent)
+pub loop-t-init : goal.loop-t-init
+loop-t-init c = rw c.into_iter-t-iterator.ensures.into_iter_gives (keeping_none _ _)
 
 pub bounds-first-w : goal.bounds-first-w
 bounds-first-w c =
-    let turn : Lowest trait_count 64 c.loop-rest.rest (count_trailing_zeros 64 c.loop-rest.rest) = lowest 64 (omega arith) c.requires.0.traits c.loop-rest.invariant.0 (omega arith) in
-    let spot = c.requires.0 in omega (arith, (turn).below, spot.agent, spot.first_sized)
+    let below = keeping_below c.requires.0.traits c.loop-t.invariant c.in-Some.ensures.steps in
+    omega (arith, below, c.requires.0.agent, c.requires.0.first_sized)
 
-pub late-requires : goal.late-requires
-late-requires c = c.requires.1
-
-pub overflow_shl-found : goal.overflow_shl-found
-overflow_shl-found c =
-    let turn : Lowest trait_count 64 c.loop-rest.rest (count_trailing_zeros 64 c.loop-rest.rest) = lowest 64 (omega arith) c.requires.0.traits c.loop-rest.invariant.0 (omega arith) in
-    omega (arith, (turn).below)
-
-pub loop-rest-smaller : goal.loop-rest-smaller
-loop-rest-smaller c =
-    let turn : Lowest trait_count 64 c.loop-rest.rest (count_trailing_zeros 64 c.loop-rest.rest) = lowest 64 (omega arith) c.requires.0.traits c.loop-rest.invariant.0 (omega arith) in
-    let lowest = turn in
-    rw lowest.dropped (omega (arith, lowest.part, pow_pos (count_trailing_zeros 64 c.loop-rest.rest)))
-
-pub loop-rest-preserved : goal.loop-rest-preserved
-loop-rest-preserved c =
-    let turn : Lowest trait_count 64 c.loop-rest.rest (count_trailing_zeros 64 c.loop-rest.rest) = lowest 64 (omega arith) c.requires.0.traits c.loop-rest.invariant.0 (omega arith) in
-    let lowest = turn in
-    let inv = c.loop-rest.invariant in
-    rw lowest.dropped (rest_next _ inv.0 lowest.is_set, rw c.late.ensures (kept_by _ 64 _ _ inv.1 inv.0 lowest.is_set lowest.below lowest.shifted refl))
+pub loop-t-preserved : goal.loop-t-preserved
+loop-t-preserved c = rw c.late.ensures (keeping_next c.requires.0.traits c.loop-t.invariant c.in-Some.ensures.steps)
 
 pub returns : goal.returns
-returns c =
-    let done : c.loop-rest.rest ≡ 0 = omega arith in
-    kept_all _ _ (rw done at c.loop-rest.invariant.1)
+returns c = keeping_all (rw c.in-None.ensures.steps.0 at c.loop-t.invariant)

@@ -1,10 +1,6 @@
--- `firsts::rows::put` meets its contract. The loop's invariant: the chore is put for the traits that are no longer in the rest.
-use Rattle.finite.proofs.LowestBit.{Rest}
+-- `firsts::rows::put` meets its contract. The loop's invariant: the chore is put for the traits that are no longer to come.
 use Rattle.firsts.proofs.Placing.{Placing}
 use Rattle.firsts.proofs.rows.put.Given as goal
 
-abbrev pub invariant-loop-rest : goal.invariant-loop-rest
-invariant-loop-rest l = Rest l.word l.rest × Placing l.w l.word l.rest (λ d. l.c) l.initial.first l.first
-
-abbrev pub decreases-loop-rest : goal.decreases-loop-rest
-decreases-loop-rest l = l.rest
+abbrev pub invariant-loop-t : goal.invariant-loop-t
+invariant-loop-t l = Placing l.w l.word l.t-iterator.0 (λ d. l.c) l.initial.first l.first

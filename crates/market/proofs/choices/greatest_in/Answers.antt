@@ -1,35 +1,14 @@
-use Prim.Native.Nat.{ℕ, ◌<◌}
-use mathlib.Core.Path.{◌≡◌, refl}
-use native.Mathlib.Omega.{arith}
-use lib.ListN.{length, get_or}
-use borrow.Author.Tests.{eq-eqb, ne_eqb, lt-ltb, le-ltb}
+use Rattle.std.proofs.Common.{length, get_or, eqb, arith, rules, tests}
+use Rattle.std.proofs.lemmas.Iterator.{YieldsList-from_range}
+use Rattle.std.proofs.lemmas.Iterator.Consumers.{YieldsList-from_filter}
 use Rattle.finite.proofs.Chosen.{greater_order}
-use Rattle.finite.proofs.Running.{run_zero, run_done, run_skip, run_take, run_keep, run_first}
+use Rattle.finite.proofs.Reduced.{best_in}
 use Rattle.market.specs.Market.{group_of}
 use Rattle.market.proofs.choices.greatest_in.Goals as goal
-use Rattle.market.proofs.choices.greatest_in.Goals.{then-groups-i+then-best-n, then-groups-i+else-best-n+then-ups-i, then-groups-i+else-best-n+else-ups-i, else-groups-i}
-
-pub loop-i-init : goal.loop-i-init
-loop-i-init c = (refl, omega arith, run_zero _ _ _)
-
-pub loop-i-preserved : goal.loop-i-preserved
-unfolding group_of
-loop-i-preserved c =
-    let s = c.loop-i.invariant.2 in
-    let f : ℕ → ℕ = λ k. get_or c.args.ups.now k 0 in
-    let l : c.loop-i.i < length c.args.groups.now = omega arith in (
-      refl,
-      omega arith,
-      elim c.if-groups-i.branch [
-        | then-groups-i+then-best-n w ↦ rw w.best-is (run_first (greater_order f) s l (eq-eqb _ _ w.if-groups-i.true) w.if-best-n.true)
-        | then-groups-i+else-best-n+then-ups-i w ↦ rw w.best-is (run_take (greater_order f) s l (eq-eqb _ _ w.if-groups-i.true) (λ _. lt-ltb _ _ w.if-ups-i.true))
-        | then-groups-i+else-best-n+else-ups-i w ↦ rw w.best-is (run_keep s (omega (arith, w.if-best-n.false)) (le-ltb _ _ w.if-ups-i.false))
-        | else-groups-i w ↦ rw w.best-is (run_skip s (ne_eqb _ _ w.if-groups-i.false))
-      ],
-    )
 
 pub returns : goal.returns
+unfolding group_of
 returns c =
     let n = length c.args.groups.now in
-    let end : c.loop-i.i ≡ n = omega arith in
-    run_done (rw end at c.loop-i.invariant.2)
+    best_in (greater_order (λ i. get_or c.args.ups.now i 0)) n (λ i. eqb (get_or c.args.groups.now i 0) c.args.stage) _ _ (λ b i v q k. search (rules, tests)) c.reduce.result c.reduce.ensures.ran
+    (YieldsList-from_filter _ (λ i. eqb (get_or c.args.groups.now i 0) c.args.stage) (YieldsList-from_range 0 n n c.filter.ensures.source (omega arith)) c.filter.ensures.closure (λ x b q k. search (rules, tests)))

@@ -3,12 +3,12 @@ use mathlib.Core.List.{List}
 use mathlib.Core.Path.{◌≡◌, ◌∙◌}
 use native.Mathlib.Omega.{arith}
 use lib.Bits.{bit_or}
-use lib.ListN.{length, get_or}
+use lib.ListN.{get_or}
 use borrow.Author.Tests.{eq-eqb, ne_eqb, lt-ltb, le-ltb}
-use Rattle.finite.proofs.Bits.{set_zero, set_skip, set-take}
+use Rattle.finite.proofs.Bits.{set_skip, set-take}
 use Rattle.market.specs.Market.{group_of, ByGroup}
 use Rattle.market.proofs.sums.by_group.Goals as goal
-use Rattle.market.proofs.sums.by_group.Goals.{else-groups-i-eq0, then-groups-i-eq0}
+use Rattle.market.proofs.sums.by_group.Goals.{else-group-eq0, then-group-eq0}
 
 -- one agent more, on either side
 free_next : {k free grouped : ℕ} {groups : List ℕ} → ByGroup k groups free grouped → get_or groups k 0 ≡ 0 → ByGroup (k + 1) groups (bit_or free (2 ^ k)) grouped
@@ -21,19 +21,9 @@ unfolding group_of
 grouped_next {k} {groups = groups} s ne =
     record { free_are = set_skip s.free_are (ne_eqb (get_or groups k 0) 0 ne); grouped_are = set-take s.grouped_are (lt-ltb 0 (get_or groups k 0) (omega arith)) }
 
-pub loop-i-init : goal.loop-i-init
-loop-i-init c = (omega arith, record { free_are = set_zero _; grouped_are = set_zero _ })
-
 pub loop-i-preserved : goal.loop-i-preserved
 loop-i-preserved c =
-    let passed = c.loop-i.invariant.1 in
-    elim c.if-groups-i-eq0.branch [
-      | then-groups-i-eq0 w ↦ (omega arith, rw (w.free-is ∙ w.with-free.ensures, w.grouped-is) (free_next passed w.if-groups-i-eq0.true))
-      | else-groups-i-eq0 w ↦ (omega arith, rw (w.free-is, w.grouped-is ∙ w.with-grouped.ensures) (grouped_next passed w.if-groups-i-eq0.false))
+    elim c.if-group-eq0.branch [
+      | then-group-eq0 w ↦ rw (w.free-is ∙ w.with-free.ensures, w.grouped-is) (free_next c.loop-i.invariant w.if-group-eq0.true)
+      | else-group-eq0 w ↦ rw (w.free-is, w.grouped-is ∙ w.with-grouped.ensures) (grouped_next c.loop-i.invariant w.if-group-eq0.false)
     ]
-
-pub returns : goal.returns
-returns c =
-    let loop = c.loop-i in
-    let all : loop.i ≡ length c.args.groups.now = omega arith in
-    rw all at loop.invariant.1

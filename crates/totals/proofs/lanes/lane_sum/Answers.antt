@@ -1,25 +1,27 @@
-use Rattle.std.proofs.Common.{ℕ, ◌+◌, ◌*◌, ◌≡◌, get_or, sym, ap, ◌∙◌, arith}
-use Rattle.finite.proofs.Sums.{sum_zero, sum_next, sum_part}
+use Rattle.std.proofs.Common.{ℕ, ◌+◌, ◌*◌, ◌≡◌, List, map, get_or, refl, ◌∙◌, rules, tests}
+use Rattle.std.specs.List.{sum, range_with_len}
+use Rattle.std.proofs.lemmas.Iterator.{YieldsList-from_range, YieldsList-from_map}
+use Rattle.std.proofs.lemmas.Iterator.Consumers.{sum_from_yields_List, fits_from_yields_list}
+use Rattle.finite.specs.Sums.{sum_to}
 use Rattle.model.specs.Limits.{max_agents}
 use Rattle.totals.specs.Lanes.{lane_count, lane_sum}
 use Rattle.totals.proofs.lanes.lane_sum.Goals as goal
 
-pub loop-q-init : goal.loop-q-init
-loop-q-init c = (omega arith, sym (sum_zero _))
+abbrev lane : List ℕ → ℕ → ℕ → ℕ
+lane lanes i q = get_or lanes (max_agents * q + i) 0
 
-pub overflow_add-sum-in-loop-q : goal.overflow_add-sum-in-loop-q
-unfolding lane_sum
-overflow_add-sum-in-loop-q c =
-    let lane : ℕ → ℕ = λ q. get_or c.args.lanes.now (max_agents * q + c.args.i) 0 in
-    record { fits = omega (arith, c.loop-q.invariant.1, sum_part {n = lane_count} lane c.loop-q.q (omega arith), c.requires.1) }
+added : (lanes : List ℕ) (i : ℕ) → sum (map (lane lanes i) (range_with_len 0 lane_count)) ≡ lane_sum lanes i
+unfolding lane_sum sum_to
+added lanes i = refl
 
-pub loop-q-preserved : goal.loop-q-preserved
-loop-q-preserved c =
-    let lane : ℕ → ℕ = λ q. get_or c.args.lanes.now (max_agents * q + c.args.i) 0 in
-    (omega arith, ap (λ s. s + lane c.loop-q.q) c.loop-q.invariant.1 ∙ sym (sum_next c.loop-q.q lane))
+pub sum-requires-clause-fits : goal.sum-requires-clause-fits
+sum-requires-clause-fits c =
+    fits_from_yields_list c.map.result _
+    (YieldsList-from_map _ (lane c.args.lanes.now c.args.i) (YieldsList-from_range 0 lane_count lane_count c.map.ensures.source refl) c.map.ensures.closure (λ x r q k. search (rules, tests)))
+    (rw (added c.args.lanes.now c.args.i) c.requires.1)
 
 pub returns : goal.returns
-unfolding lane_sum
 returns c =
-    let all : c.loop-q.q ≡ lane_count = omega arith in
-    rw all at c.loop-q.invariant.1
+    sum_from_yields_List c.map.result _ c.sum.ensures.ran
+    (YieldsList-from_map _ (lane c.args.lanes.now c.args.i) (YieldsList-from_range 0 lane_count lane_count c.map.ensures.source refl) c.map.ensures.closure (λ x r q k. search (rules, tests)))
+    ∙ added c.args.lanes.now c.args.i

@@ -1,4 +1,3 @@
-use Prim.Native.Nat.{◌-◌, ◌≤◌}
 use mathlib.Core.Path.{◌≡◌}
 use mathlib.Core.Bool.{cond}
 use lib.ListN.{length, take}
@@ -11,7 +10,4 @@ use Rattle.waste.specs.Rings.{no_distance}
 use Rattle.waste.proofs.connected.first_ring.Given as goal
 
 abbrev pub invariant-loop-i : goal.invariant-loop-i
-invariant-loop-i l = (l.i ≤ l.n) × (length l.distances ≡ max_agents) × (take l.i l.distances ≡ tabulate l.i (λ k. cond (burdened (as_marked l.sheet) (owner_of l.owners) k) 0 no_distance))
-
-abbrev pub decreases-loop-i : goal.decreases-loop-i
-decreases-loop-i l = l.n - l.i
+invariant-loop-i l = (length l.distances ≡ max_agents) × (take l.i l.distances ≡ tabulate l.i (λ k. cond (burdened (as_marked l.sheet) (owner_of l.owners) k) 0 no_distance))

@@ -1,4 +1,4 @@
-use Prim.Native.Nat.{◌+◌, ◌-◌, ◌≤◌}
+use Prim.Native.Nat.{◌+◌}
 use Rattle.finite.specs.Search.{any_below}
 use Rattle.model.specs.Instance.{owner_of}
 use Rattle.model.specs.Sheet.{agents_of, as_marked}
@@ -7,7 +7,4 @@ use Rattle.waste.proofs.Rings.{ring_link}
 use Rattle.waste.proofs.connected.next_ring.Given as goal
 
 abbrev pub invariant-loop-j : goal.invariant-loop-j
-invariant-loop-j l = (l.j ≤ l.n) × Spread (agents_of l.sheet) (l.t + 1) (λ i. any_below l.j (ring_link (as_marked l.sheet) (owner_of l.owners) l.initial.distances l.t i)) l.initial.distances l.distances
-
-abbrev pub decreases-loop-j : goal.decreases-loop-j
-decreases-loop-j l = l.n - l.j
+invariant-loop-j l = Spread (agents_of l.sheet) (l.t + 1) (λ i. any_below l.j (ring_link (as_marked l.sheet) (owner_of l.owners) l.initial.distances l.t i)) l.initial.distances l.distances

@@ -1,40 +1,40 @@
 use Prim.Native.Nat.{◌<◌}
 use native.Mathlib.Omega.{arith}
 use Rattle.waste.proofs.Tests.{given_on_sheet}
-use Rattle.waste.proofs.Walking.{passed_chore, passed_taker, passed_on}
+use Rattle.waste.proofs.Walking.{passed_some, passed_chore, taker_some, passed_taker, passed_on}
 use Rattle.waste.proofs.walk.hand_on.Goals as goal
+use Rattle.waste.proofs.walk.hand_on.Goals.{After-unwrap-e, After-unwrap-g}
 
-pub bounds-distances-h : goal.bounds-distances-h
-bounds-distances-h c = omega (arith, c.requires.away.here, c.requires.walkable.given.agents, c.requires.walkable.given.valid.agents_fit)
+-- the chore that goes, and who takes it
+chore : (c : After-unwrap-e) → c.unwrap-e.result < c.args.m
+chore c = let p = c.requires in passed_chore p.walkable.given p.walkable.rings p.away c.first_passable.ensures c.unwrap-e.ensures
 
-pub first_passable-e-requires : goal.first_passable-e-requires
-first_passable-e-requires c = record { given = c.requires.walkable.given; h_lt_n = c.requires.away.here }
+taker : (c : After-unwrap-g) → c.unwrap-g.result < c.args.n
+taker c =
+    let p = c.requires in
+    passed_taker p.walkable.given p.walkable.rings p.away c.first_passable.ensures c.unwrap-e.ensures c.first_taker.ensures c.unwrap-g.ensures
 
-pub first_taker-g-requires : goal.first_taker-g-requires
-first_taker-g-requires c =
-    let chore : c.first_passable-e.result < c.args.m = let p = c.requires in
-    passed_chore p.walkable.given p.walkable.rings p.away c.first_passable-e.ensures in
-    given_on_sheet c.requires.walkable.given chore
+pub unwrap-e-requires : goal.unwrap-e-requires
+unwrap-e-requires c = let p = c.requires in passed_some p.walkable.given p.walkable.rings p.away c.first_passable.ensures
+
+pub first_taker-requires : goal.first_taker-requires
+first_taker-requires c = given_on_sheet c.requires.walkable.given (chore (goal.at.first_taker-requires c).After-unwrap-e)
+
+pub unwrap-g-requires : goal.unwrap-g-requires
+unwrap-g-requires c =
+    let p = c.requires in
+    taker_some p.walkable.given p.walkable.rings p.away c.first_passable.ensures c.unwrap-e.ensures c.first_taker.ensures
 
 pub overflow_add-list : goal.overflow_add-list
-overflow_add-list c =
-    let taker : c.first_taker-g.result < c.args.n = let p = c.requires in
-    passed_taker p.walkable.given p.walkable.rings p.away c.first_passable-e.ensures c.first_taker-g.ensures in
-    omega (arith, taker)
+overflow_add-list c = omega (arith, taker (goal.at.overflow_add-list c).After-unwrap-g)
 
 pub overflow_cast-list : goal.overflow_cast-list
-overflow_cast-list c =
-    let taker : c.first_taker-g.result < c.args.n = let p = c.requires in
-    passed_taker p.walkable.given p.walkable.rings p.away c.first_passable-e.ensures c.first_taker-g.ensures in
-    omega (arith, taker, c.requires.walkable.given.agents, c.requires.walkable.given.valid.agents_fit)
+overflow_cast-list c = omega (arith, taker (goal.at.overflow_cast-list c).After-unwrap-g, c.requires.walkable.given.agents, c.requires.walkable.given.valid.agents_fit)
 
 pub bounds-list-e : goal.bounds-list-e
-bounds-list-e c =
-    let chore : c.first_passable-e.result < c.args.m = let p = c.requires in
-    passed_chore p.walkable.given p.walkable.rings p.away c.first_passable-e.ensures in
-    omega (arith, chore, c.requires.walkable.long)
+bounds-list-e c = omega (arith, chore (goal.at.bounds-list-e c).After-unwrap-e, c.requires.walkable.long)
 
 pub returns : goal.returns
 returns c =
     let p = c.requires in
-    passed_on p.walkable.given p.walkable.rings p.away c.first_passable-e.ensures c.first_taker-g.ensures c.args.list.now
+    passed_on p.walkable.given p.walkable.rings p.away c.first_passable.ensures c.unwrap-e.ensures c.first_taker.ensures c.unwrap-g.ensures c.args.list.now
