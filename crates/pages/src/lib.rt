@@ -32,21 +32,20 @@ pub trait SheetPrinter {
 fn sheets(book: &[u8]) -> usize
     ensures { result ≡ to_print book.now }
 {
-    if contents::contents_refusal(book) != 0 {
-        return 0;
+    match contents::admit_book(book) {
+        Ok(()) => contents::count(book),
+        Err(_) => 0,
     }
-    contents::count(book)
 }
 
 // What is printed last, after the sheets, or of a refused book alone.
 fn last_text<W: Write>(book: &[u8], total: Tally, to: &mut W) -> io::Result<()>
     ensures { OnOk result (Appends (W.contents to.old) (W.contents to.new) (last_text book.now total.moves total.cuts)) }
 {
-    let refusal = contents::contents_refusal(book);
-    if refusal != 0 {
-        return lines::book_refused_line(to, refusal as u64);
+    match contents::admit_book(book) {
+        Ok(()) => lines::total_line(to, total.moves, total.cuts),
+        Err(refusal) => lines::book_refused_line(to, refusal),
     }
-    lines::total_line(to, total.moves, total.cuts)
 }
 
 // The sheets, each as soon as its text is made, and the line after them.

@@ -1,9 +1,11 @@
 // The lines that the programs print. What a contract says holds of a writer whose bytes are known.
 ghost use Rattle.std.specs.Prelude.{OnOk, IfSome};
 ghost use Rattle.std.specs.Io.KnownBytes.{Appends};
+ghost use Rattle.model.specs.RefusalNumbers.{refusal_number};
 ghost use Rattle.text.specs.Text.{listed};
 ghost use Rattle.text.specs.Lines.{sheet_line, owners_line, prices_line, opening_line, refused_line, book_refused_line, total_line};
 
+use model::Refusal;
 use std::fmt::Display;
 use std::io;
 use std::io::Write;
@@ -43,15 +45,17 @@ pub fn prices_line<W: Write>(to: &mut W, prices: &[u32]) -> io::Result<()>
     list_line(to, "prices", prices)
 }
 
-pub fn refused_line<W: Write>(to: &mut W, number: u64, refusal: u64) -> io::Result<()>
-    ensures { OnOk result (Appends (W.contents to.old) (W.contents to.new) (refused_line number refusal)) }
+pub fn refused_line<W: Write>(to: &mut W, number: u64, refusal: Refusal) -> io::Result<()>
+    ensures { OnOk result (Appends (W.contents to.old) (W.contents to.new) (refused_line number (refusal_number refusal))) }
 {
+    let refusal = u8::from(refusal);
     writeln!(to, "sheet {number} refused {refusal}")
 }
 
-pub fn book_refused_line<W: Write>(to: &mut W, refusal: u64) -> io::Result<()>
-    ensures { OnOk result (Appends (W.contents to.old) (W.contents to.new) (book_refused_line refusal)) }
+pub fn book_refused_line<W: Write>(to: &mut W, refusal: Refusal) -> io::Result<()>
+    ensures { OnOk result (Appends (W.contents to.old) (W.contents to.new) (book_refused_line (refusal_number refusal))) }
 {
+    let refusal = u8::from(refusal);
     writeln!(to, "book refused {refusal}")
 }
 

@@ -1,3 +1,4 @@
+use Rattle.std.proofs.Common.{arith}
 use Rattle.text.specs.Text.{ascii}
 use Rattle.text.specs.Lines.{book_refused_line}
 use Rattle.text.proofs.Sending.{one_field}
@@ -5,4 +6,4 @@ use Rattle.text.proofs.lines.book_refused_line.Goals as goal
 
 pub returns : goal.returns
 unfolding book_refused_line
-returns g c = rw (one_field (ascii "book refused ") _ c.ranges.refusal.fits) c.writeln.ensures.bytes
+returns g c = rw (← c.from-refusal.ensures, one_field (ascii "book refused ") c.from-refusal.result (omega (arith, c.from-refusal.type_inv))) c.writeln.ensures.bytes
