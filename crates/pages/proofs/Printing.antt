@@ -12,7 +12,7 @@ use borrow.Author.Tests.{eq-eqb, ne_eqb, eqb-true}
 use Rattle.finite.proofs.Tests.{cond-le}
 use Rattle.finite.proofs.Below.{by_same}
 use Rattle.finite.proofs.Sums.{sum_zero, sum_next, sum_at_most}
-use Rattle.std.specs.Prelude.{Option, Result}
+use Rattle.std.specs.Prelude.{Option, Result, Ok, Err, OnOk}
 use Rattle.std.specs.Io.KnownBytes.{Keeps, Appends}
 use Rattle.std.proofs.KnownBytes.{Appends-nil, Appends-trans, Appends-kept}
 use Rattle.model.specs.declared.Refusal.{Refusal}
@@ -106,11 +106,16 @@ module _ (P : Printer) (book : List ℕ) where
         }
 
   -- after all of them
-  pub end : (old now new : Option (List ℕ)) {total : Tally} {j : ℕ} → Passed P book old now total j → to_print book ≤ j → Appends now new (last_text book total.moves total.cuts) → Appends old new (book_text P book)
+  whole : (old now new : Option (List ℕ)) {total : Tally} {j : ℕ} → Passed P book old now total j → to_print book ≤ j → Appends now new (last_text book total.moves total.cuts) → Appends old new (book_text P book)
   unfolding last_of book_text
-  end old now new {j = j} Q l L =
+  whole old now new {j = j} Q l L =
       let all : j ≡ to_print book = omega (arith, Q.within) in
       Appends-trans old now new _ _ (rw all at Q.shows) (rw (Q.moves, Q.cuts, all) at L)
+
+  -- whatever the last flush answers
+  pub end : (old now new flushed : Option (List ℕ)) {total : Tally} {j : ℕ} {T E : Type 0} (r : Result T E) → Passed P book old now total j → to_print book ≤ j → Appends now new (last_text book total.moves total.cuts) → Keeps new flushed → OnOk r (Appends old flushed (book_text P book))
+  end old now new flushed (Err e) Q l L kept = tt
+  end old now new flushed (Ok x) Q l L kept = Appends-kept old new flushed _ (whole old now new Q l L) kept
 
   joined_are : (texts : ℕ → List ℕ) → ((j : ℕ) → j < to_print book → texts j ≡ sheet_text P book j) → (k : ℕ) → k ≤ to_print book → joined texts k ≡ joined (sheet_text P book) k
   unfolding joined

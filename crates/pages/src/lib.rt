@@ -43,8 +43,8 @@ fn last_text<W: Write>(book: &[u8], total: Tally, to: &mut W) -> io::Result<()>
     ensures { OnOk result (Appends (W.contents to.old) (W.contents to.new) (last_text book.now total.moves total.cuts)) }
 {
     match contents::admit_book(book) {
-        Ok(()) => lines::total_line(to, total.moves, total.cuts),
-        Err(refusal) => lines::book_refused_line(to, refusal),
+        Ok(()) => lines::total_line(total.moves, total.cuts, to),
+        Err(refusal) => lines::book_refused_line(refusal, to),
     }
 }
 

@@ -42,21 +42,23 @@ fn what_is_asked(rt: &impl Env) -> Asked {
     }
 }
 
-// Whether the program is to do its own work. What else is asked for is printed; where that fails, `failure` is said.
+// Whether the program is to do its own work. What else is asked for is printed.
 pub fn to_run<W: Write, E: Write>(
     rt: &impl Env,
-    out: &mut W,
-    errors: &mut E,
+    name: &str,
     usage: &[u8],
     version: &[u8],
-    failure: &[u8],
+    out: &mut W,
+    errors: &mut E,
 ) -> bool {
     let printed = match what_is_asked(rt) {
         Asked::Run => return true,
-        Asked::Help => output::put(out, usage),
-        Asked::Version => output::put(out, version),
-        Asked::Unknown => output::put(errors, usage),
+        Asked::Help => output::put(usage, out),
+        Asked::Version => output::put(version, out),
+        Asked::Unknown => output::put(usage, errors),
     };
-    output::report(printed, errors, failure);
+    if let Err(error) = printed {
+        output::fail(name, "write error", &error, errors);
+    }
     false
 }

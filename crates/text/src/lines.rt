@@ -10,14 +10,14 @@ use std::fmt::Display;
 use std::io;
 use std::io::Write;
 
-pub fn sheet_line<W: Write>(to: &mut W, number: u64, moves: u64, cuts: u64) -> io::Result<()>
+pub fn sheet_line<W: Write>(number: u64, moves: u64, cuts: u64, to: &mut W) -> io::Result<()>
     ensures { OnOk result (Appends (W.contents to.old) (W.contents to.new) (sheet_line number moves cuts)) }
 {
     writeln!(to, "sheet {number} moves {moves} cuts {cuts}")
 }
 
 // A word, and a number for each chore, each after a space.
-fn list_line<W: Write, T: Display>(to: &mut W, word: &str, numbers: &[T]) -> io::Result<()>
+fn list_line<W: Write, T: Display>(word: &str, numbers: &[T], to: &mut W) -> io::Result<()>
     ensures { OnOk result (IfSome (listed T.output word.now numbers.now) (Appends (W.contents to.old) (W.contents to.new))) }
 {
     write!(to, "{word}")?;
@@ -27,39 +27,39 @@ fn list_line<W: Write, T: Display>(to: &mut W, word: &str, numbers: &[T]) -> io:
     writeln!(to)
 }
 
-pub fn owners_line<W: Write>(to: &mut W, owners: &[u8]) -> io::Result<()>
+pub fn owners_line<W: Write>(owners: &[u8], to: &mut W) -> io::Result<()>
     ensures { OnOk result (Appends (W.contents to.old) (W.contents to.new) (owners_line owners.now)) }
 {
-    list_line(to, "owners", owners)
+    list_line("owners", owners, to)
 }
 
-pub fn opening_line<W: Write>(to: &mut W, owners: &[u8]) -> io::Result<()>
+pub fn opening_line<W: Write>(owners: &[u8], to: &mut W) -> io::Result<()>
     ensures { OnOk result (Appends (W.contents to.old) (W.contents to.new) (opening_line owners.now)) }
 {
-    list_line(to, "opening", owners)
+    list_line("opening", owners, to)
 }
 
-pub fn prices_line<W: Write>(to: &mut W, prices: &[u32]) -> io::Result<()>
+pub fn prices_line<W: Write>(prices: &[u32], to: &mut W) -> io::Result<()>
     ensures { OnOk result (Appends (W.contents to.old) (W.contents to.new) (prices_line prices.now)) }
 {
-    list_line(to, "prices", prices)
+    list_line("prices", prices, to)
 }
 
-pub fn refused_line<W: Write>(to: &mut W, number: u64, refusal: Refusal) -> io::Result<()>
+pub fn refused_line<W: Write>(number: u64, refusal: Refusal, to: &mut W) -> io::Result<()>
     ensures { OnOk result (Appends (W.contents to.old) (W.contents to.new) (refused_line number (refusal_number refusal))) }
 {
     let refusal = u8::from(refusal);
     writeln!(to, "sheet {number} refused {refusal}")
 }
 
-pub fn book_refused_line<W: Write>(to: &mut W, refusal: Refusal) -> io::Result<()>
+pub fn book_refused_line<W: Write>(refusal: Refusal, to: &mut W) -> io::Result<()>
     ensures { OnOk result (Appends (W.contents to.old) (W.contents to.new) (book_refused_line (refusal_number refusal))) }
 {
     let refusal = u8::from(refusal);
     writeln!(to, "book refused {refusal}")
 }
 
-pub fn total_line<W: Write>(to: &mut W, moves: u64, cuts: u64) -> io::Result<()>
+pub fn total_line<W: Write>(moves: u64, cuts: u64, to: &mut W) -> io::Result<()>
     ensures { OnOk result (Appends (W.contents to.old) (W.contents to.new) (total_line moves cuts)) }
 {
     writeln!(to, "total moves {moves} cuts {cuts}")

@@ -9,7 +9,7 @@ use std::io;
 use std::io::Write;
 
 // The chore's number in two bytes, high byte first, then giver, receiver, round and step.
-fn move_line<W: Write>(to: &mut W, bytes: &[u8; MOVE_SIZE]) -> io::Result<()>
+fn move_line<W: Write>(bytes: &[u8; MOVE_SIZE], to: &mut W) -> io::Result<()>
     ensures { OnOk result (Appends (W.contents to.old) (W.contents to.new) (line_at bytes.now 0)) }
 {
     let [high, low, giver, receiver, round, step] = *bytes;
@@ -20,12 +20,12 @@ fn move_line<W: Write>(to: &mut W, bytes: &[u8; MOVE_SIZE]) -> io::Result<()>
     )
 }
 
-pub fn moves_text<W: Write>(to: &mut W, bytes: &[u8]) -> io::Result<()>
+pub fn moves_text<W: Write>(bytes: &[u8], to: &mut W) -> io::Result<()>
     ensures { OnOk result ((moves : List Move) → bytes.now ≡ record_of moves → Appends (W.contents to.old) (W.contents to.new) (move_lines moves)) }
 {
     let (moves, _) = bytes.as_chunks::<MOVE_SIZE>();
     for six in moves {
-        move_line(to, six)?;
+        move_line(six, to)?;
     }
     Ok(())
 }
