@@ -1,11 +1,9 @@
 -- What a share-out promises, for a sheet to whose share-out lists of enough entries are lent; and the text of that sheet.
 -- Assumes nothing.
 use Prim.Native.Nat.{ℕ, ◌≤◌}
-use mathlib.Core.Bool.{true, false}
 use mathlib.Core.List.{List}
 use mathlib.Core.Path.{◌≡◌, refl, sym, ap, ◌∙◌}
 use native.Mathlib.Omega.{arith}
-use lib.Dec.{eqb}
 use lib.ListN.{length}
 use borrow.Author.Tests.{eq-eqb, ne_eqb}
 use Rattle.finite.proofs.Below.{by_same}
@@ -18,13 +16,13 @@ use Rattle.model.specs.Refusals.{sheet_refusal}
 use Rattle.model.specs.RefusalNumbers.{refusal_number}
 use Rattle.model.specs.Replies.{share_out_reply, refused, shared}
 use Rattle.model.specs.Promises.{SharedOut, NotShared}
-use Rattle.sheet.proofs.Refusal.{valid, accepted}
+use Rattle.sheet.proofs.Refusal.{valid}
 use Rattle.allocation.specs.Final.{final_of}
-use Rattle.allocation.proofs.Final.{final_demand3, owners_long, prices_long}
+use Rattle.allocation.proofs.Final.{final_demand3}
 use Rattle.text.specs.Lines.{refused_line}
 use Rattle.tally.specs.Counting.{moves_added, cuts_added}
 use Rattle.pages.specs.Printer.{Printer, Unbroken, text_of, adds_of}
-use Rattle.pages.specs.Answered.{Ran, Left, TurnedDown, Answered}
+use Rattle.pages.specs.Answered.{Left, TurnedDown, Answered}
 
 -- a share-out is turned down with its number, or comes back with its final state
 module _ (P : Printer) (unbroken : Unbroken P) {s owners prices scratch owners' prices' scratch' : List ℕ} {number : ℕ} {r : Result ShareOut Refusal} (is : number ≡ P.refusal s) (some : number ≡ 0 → SharedOut s owners prices scratch owners' prices' scratch' r) (none : (number ≡ 0 → ⊥) → NotShared number owners prices scratch owners' prices' scratch' r) where
@@ -70,14 +68,6 @@ module _ (P : Printer) (unbroken : Unbroken P) {s owners prices scratch owners' 
           turned_down = λ k e. let q : refused (refusal_number k) ≡ refused number = sym (ap share_out_reply e) ∙ (none h).answer in let same : refusal_number k ≡ number = cc in record { number = same ∙ is; some = λ w. h (sym same ∙ w) };
           shared_out = λ out e. let q : shared out.moves out.cuts ≡ refused number = sym (ap share_out_reply e) ∙ (none h).answer in let w : ◌≡◌ {A = ℕ} 0 1 = cc in absurd (omega arith);
         })
-
--- a sheet that was shared out has an entry for each chore
-module _ {s owners prices : List ℕ} {count cuts : ℕ} (R : Ran s count cuts owners prices) where
-  pub owners_few_lem : length owners ≤ max_chores
-  owners_few_lem = omega (arith, ap length R.owners_are, owners_long s (accepted s R.valid), R.valid.chores_fit)
-
-  pub prices_few_lem : length prices ≤ max_chores
-  prices_few_lem = omega (arith, ap length R.prices_are, prices_long s (accepted s R.valid), R.valid.chores_fit)
 
 -- the text of a sheet: that of its refusal, or its lines
 module _ (P : Printer) (s : List ℕ) (number : ℕ) where

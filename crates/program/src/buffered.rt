@@ -1,19 +1,21 @@
 // Text on its way out.
 ghost use Rattle.std.specs.Prelude.{◌≡◌, ◌≤◌, OnOk};
 ghost use Rattle.std.specs.Io.KnownBytes.{Keeps};
+ghost use Rattle.program.specs.declared.buffered.TheConstants.{ROOM};
 
 use std::io;
 use std::io::Write;
 
-const ROOM: usize = 65536;
+const ROOM: usize = 32768;
 
-// Hands text on to a writer in large pieces. What is not handed on yet stands first in `bytes`.
+// Hands text on to a writer in large pieces, as the standard library's buffers do, which ask an allocator for their memory. What is not handed on
+// yet stands first in `bytes`.
 #[derive(Drop)]
 pub struct Buffered<W> {
     to: W,
     bytes: [u8; ROOM],
     size: usize,
-    ghost within: { size ≤ 65536 },
+    ghost within: { size ≤ ROOM },
 }
 
 impl<W: Write> Buffered<W> {

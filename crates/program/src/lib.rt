@@ -11,7 +11,7 @@ use std::io::{Read, Write};
 
 // Reads one book, and prints what `print` makes of it. The buffer has one byte more than the longest book, so that a longer one is seen by its
 // length, and turned down.
-pub fn print_read<R: Read, W: Write, E: Write, F: FnOnce(&[u8], &mut W) -> io::Result<()>>(
+pub fn run<R: Read, W: Write, E: Write, F: FnOnce(&[u8], &mut W) -> io::Result<()>>(
     name: &str,
     print: F,
     from: &mut R,

@@ -13,7 +13,8 @@ use program::buffered::Buffered;
 use std::io;
 use std::io::Write;
 
-const USAGE: &[u8] = b"usage: shares < BOOK\nShares out every sheet of the book on standard input. See shares(1).\n";
+const USAGE: &[u8] =
+    b"usage: shares < BOOK\nShares out every sheet of the book on standard input. See shares(1).\n";
 
 fn print_book<W: Write>(book: &[u8], to: &mut W) -> io::Result<()>
     ensures { OnOk result ((text : List ℕ) × Printed book.now text × Appends (W.contents to.old) (W.contents to.new) text) }
@@ -24,7 +25,14 @@ fn print_book<W: Write>(book: &[u8], to: &mut W) -> io::Result<()>
 fn main(rt: HostRuntime) {
     let mut out = Buffered::new(rt.stdout());
     let mut errors = rt.stderr();
-    if arguments::to_run(&rt, "shares", USAGE, b"shares 6.2.15\n", &mut out, &mut errors) {
-        program::print_read("shares", print_book, &mut rt.stdin(), &mut out, &mut errors);
+    if arguments::to_run(
+        &rt,
+        "shares",
+        USAGE,
+        b"shares 6.2.15\n",
+        &mut out,
+        &mut errors,
+    ) {
+        program::run("shares", print_book, &mut rt.stdin(), &mut out, &mut errors);
     }
 }

@@ -2,7 +2,7 @@
 ghost use Rattle.std.specs.Prelude.{OnOk};
 ghost use Rattle.std.specs.Io.KnownBytes.{Appends};
 ghost use Rattle.pages.specs.Printer.{text_of};
-ghost use Rattle.pages.specs.Answered.{Ran, Answered};
+ghost use Rattle.pages.specs.Answered.{Answered};
 ghost use Rattle.shares.specs.Page.{shared_lines};
 ghost use Rattle.shares.specs.Printing.{printer, unbroken};
 

@@ -1,10 +1,10 @@
 -- The text of one sheet, from what its share-out left.
 -- Assumes nothing.
-use Prim.Native.Nat.{ℕ, ◌-◌, ◌*◌, ◌≤◌}
+use Prim.Native.Nat.{ℕ, ◌*◌, ◌≤◌}
 use mathlib.Core.List.{List}
-use mathlib.Core.Path.{◌≡◌, refl, sym, ◌∙◌}
+use mathlib.Core.Path.{◌≡◌, sym, ◌∙◌}
 use native.Mathlib.Omega.{arith}
-use lib.ListN.{length, take, replicate}
+use lib.ListN.{take, replicate}
 use lib.Seq.{length-take-le}
 use Rattle.std.specs.Prelude.{Option, Result, Ok, Err, OnOk}
 use Rattle.std.specs.Io.KnownBytes.{Appends}
@@ -46,10 +46,6 @@ run_sent a b c d e f number count cuts opened bytes owners prices A B C D E ms i
     Appends-trans a e f _ _ (Appends-trans a d e _ _ run D) E
 
 module _ {s owners prices bytes : List ℕ} {out : ShareOut} (L : Left printer s out.moves out.cuts owners prices) (N : Noted s bytes) where
-  -- the bytes of the moves lie in the record
-  pub moves_inside : move_size * out.moves ≤ length bytes
-  moves_inside = omega (arith, L.ran.count_is, N.fit, N.sized)
-
   -- what stands first in the record is that of the moves, and with what stands first in the lists its lines are the sheet's
   pub left_text : (old new : Option (List ℕ)) {T E : Type 0} (r : Result T E) {m end : ℕ} {opened : List ℕ} (number : ℕ) → m ≡ chores_of s → end ≡ move_size * out.moves → opened ≡ (opening (as_read s)).owners → OnOk r ((ms : List Move) → take end bytes ≡ record_of ms → Appends old new (run_lines number out.moves out.cuts opened ms (take m owners) (take m prices))) → OnOk r (Appends old new (text_of printer s number))
   left_text old new (Err x) number e q o S = tt

@@ -63,7 +63,15 @@ fn shared_text<W: Write>(
     let mut opened = [0; model::MAX_CHORES];
     let opened = &mut opened[..m];
     opening_owners(sheet, opened);
-    run_lines(number, out, opened, &bytes[..end], &owners[..m], &prices[..m], to)
+    run_lines(
+        number,
+        out,
+        opened,
+        &bytes[..end],
+        &owners[..m],
+        &prices[..m],
+        to,
+    )
 }
 
 pub fn answer_text<W: Write>(

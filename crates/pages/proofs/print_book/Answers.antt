@@ -1,7 +1,5 @@
 -- The sheet at work is one to be printed.
 use Rattle.std.proofs.Common.{arith, ◌<◌}
-use Rattle.std.proofs.KnownBytes.{Appends-kept}
-use Rattle.std.proofs.lemmas.Result.{on_ok_weaker}
 use Rattle.pages.specs.Printer.{to_print}
 use Rattle.pages.proofs.Printing.{in_book, begin, fitting, onward, end}
 use Rattle.pages.proofs.print_book.Goals as goal

@@ -1,5 +1,5 @@
 -- What one more read put into the rest of the buffer stands after what was there.
-use Rattle.std.proofs.Common.{rules, arith, ◌-◌, length, subst}
+use Rattle.std.proofs.Common.{rules, ◌-◌, length, subst}
 use Rattle.std.proofs.KnownBytes.{Consumes-trans}
 use Rattle.std.specs.Io.KnownBytes.{Consumes}
 use Rattle.program.proofs.Pieces.{take_more}
