@@ -1,22 +1,14 @@
 -- Laws of what both checks are given.
 -- Assumes nothing.
-use Prim.Native.Nat.{ℕ, ◌+◌, ◌≤◌, ◌<◌}
-use mathlib.Core.Bool.{Bool, true, false, not}
+use Prim.Native.Nat.{ℕ, ◌≤◌, ◌<◌}
 use mathlib.Core.List.{List}
-use mathlib.Core.Path.{◌≡◌, ◌∙◌}
+use mathlib.Core.Path.{◌≡◌}
 use native.Mathlib.Omega.{arith}
-use lib.Dec.{eqb, ltb}
-use lib.ListN.{length, get_or}
-use borrow.Author.Tests.{eq-eqb, ne_eqb, lt-ltb}
 use Rattle.finite.specs.Lists.{Picks}
-use Rattle.finite.proofs.Tests.{and_intro, or_left, or_right, not_on, not_off}
-use Rattle.finite.proofs.Search.{all_zero, all_next, all_fails_intro}
-use Rattle.model.specs.Limits.{max_agents, out_of_range}
+use Rattle.model.specs.Limits.{max_agents}
 use Rattle.model.specs.Instance.{owner_of}
 use Rattle.model.specs.Sheet.{agents_of, chores_of, easy_weight, difficult_weight, as_marked}
-use Rattle.model.specs.Fairness.{entries_in_range}
-use Rattle.model.specs.Refusals.{◌or_else◌, sheet_refusal, owners_refusal}
-use Rattle.model.proofs.Range.{in_range}
+use Rattle.model.specs.Refusals.{sheet_refusal, owners_refusal}
 use Rattle.sheet.specs.Valid.{Valid}
 use Rattle.sheet.proofs.OrElse.{or_else_zero}
 use Rattle.sheet.proofs.Judged.{owners_picks}
