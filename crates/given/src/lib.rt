@@ -61,7 +61,7 @@ pub fn mark_cost(a: u32, b: u32, mark: u8) -> u32
 
 // The first chore of agent i that is difficult for it.
 pub fn first_burden(sheet: &Sheet, owners: &[u8], i: usize) -> Option<usize>
-    requires given { Given sheet.now owners.now (agents_of sheet.now) (chores_of sheet.now) }
+    requires given { Given sheet.now owners.now }
     requires i_bound { i < agents_of sheet.now }
     ensures { result ≡ if_below (chores_of sheet.now) (first_below (chores_of sheet.now) (burdens sheet.now owners.now i)) }
 {
