@@ -4,11 +4,10 @@ use Prim.Native.Nat.{ℕ, ◌%◌, ◌<◌, ◌∣◌}
 use mathlib.Core.Bool.{not}
 use mathlib.Core.List.{List, ◌++◌}
 use mathlib.Core.Path.{◌≡◌, sym, ap, ◌∙◌}
-use native.Mathlib.Nat.{le_of_eq, dvd_of_mod-eq-zero}
+use native.Mathlib.Nat.{dvd_of_mod-eq-zero}
 use native.Mathlib.Omega.{arith}
 use lib.Dec.{eqb}
-use lib.ListN.{length, get_or, take, drop, get_or-append}
-use lib.Seq.{take_all}
+use lib.ListN.{length, get_or, drop, get_or-append}
 use borrow.Author.Tests.{eqb-true, eq-eqb, ne_eqb, not-false}
 use Rattle.finite.proofs.Tests.{cond_true, cond_false}
 use Rattle.finite.proofs.Lists.{tab_length, tab_at}
@@ -73,13 +72,12 @@ module _ (s : List ℕ) where
           secured = λ e. absurd (some e);
         }
 
-    pub told : {n : ℕ} {numbers : List ℕ} → refusal ≡ 0 → n ≡ agents_of s → numbers ≡ take n (measures_of s) ++ drop n before → Measured s before refusal numbers
+    pub told : {numbers : List ℕ} → refusal ≡ 0 → numbers ≡ measures_of s ++ drop (agents_of s) before → Measured s before refusal numbers
     unfolding measures_over
-    told {n} {numbers} none agents written =
+    told none written =
         let z : measures_refusal s ≡ 0 = sym answer ∙ none in
-        let whole : numbers ≡ measures_of s ++ drop (agents_of s) before = rw (written, agents, take_all (agents_of s) (measures_of s) (le_of_eq measures_long)) in
         record {
           answer = answer;
-          numbers = whole ∙ sym (cond_true (measures_of s ++ drop (agents_of s) before) before (eq-eqb (measures_refusal s) 0 z));
-          secured = λ _ i l. rw (whole_at before whole i l) (share_secured z i);
+          numbers = written ∙ sym (cond_true (measures_of s ++ drop (agents_of s) before) before (eq-eqb (measures_refusal s) 0 z));
+          secured = λ _ i l. rw (whole_at before written i l) (share_secured z i);
         }

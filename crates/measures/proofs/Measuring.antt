@@ -1,6 +1,6 @@
 -- What the code for one agent's share makes of a sheet.
 -- Assumes nothing.
-use Prim.Native.Nat.{ℕ, ◌+◌, ◌*◌, ◌-◌, ◌≤◌}
+use Prim.Native.Nat.{ℕ, ◌+◌, ◌*◌, ◌-◌, ◌≤◌, ◌∣◌}
 use mathlib.Core.Bool.{not-not}
 use mathlib.Core.List.{List}
 use mathlib.Core.Path.{◌≡◌, ap, ◌∙◌}
@@ -13,7 +13,8 @@ use Rattle.finite.proofs.Counts.{count_le, count_not}
 use Rattle.model.specs.Limits.{max_agents, max_chores, max_weight}
 use Rattle.model.specs.Sheet.{chores_of, easy_weight, difficult_weight, is_difficult, marks_easy, difficult_marks, as_marked}
 use Rattle.model.specs.MaximinShare.{maximin_share}
-use Rattle.measures.specs.Dealing.{dealt_on, Dealing, Measurable}
+use Rattle.sheet.specs.Readers.{SheetRead}
+use Rattle.measures.specs.Dealing.{dealt_on, Dealing}
 use Rattle.measures.proofs.Bearable.{difficult_count, easy_count}
 use Rattle.measures.proofs.Dealing.{dealt_long, dealt_at_most}
 use Rattle.measures.proofs.Shares.{dealt_costs, dealt_top, share_dealt}
@@ -27,7 +28,7 @@ pub easy_marked : (s : List ℕ) (i : ℕ) → easy_count (as_marked s) i ≡ ch
 unfolding as_marked
 easy_marked s i = omega (arith, count_not (chores_of s) (marks_easy s i), difficult_marked s i)
 
-module _ {s : List ℕ} {n m i : ℕ} (g : Measurable s n m i) {difficult : ℕ} (marks : difficult ≡ difficult_marks s i) where
+module _ {s : List ℕ} {n m : ℕ} (g : SheetRead s n m) (i : ℕ) {difficult : ℕ} (marks : difficult ≡ difficult_marks s i) where
   pub few-marks : difficult ≤ m
   unfolding difficult_marks
   few-marks = rw (marks, g.chores) (count_le (chores_of s) (is_difficult s i))
@@ -71,10 +72,10 @@ module _ {s : List ℕ} {n m i : ℕ} (g : Measurable s n m i) {difficult : ℕ}
           }
 
       -- the costliest bundle costs the agent's share
-      pub share_found : {r : ℕ} {costs'' : List ℕ} → costs'' ≡ dealt_on n a (m - difficult) costs' → r ≡ max_to n (λ k. get_or costs'' k 0) → r ≡ maximin_share (as_marked s) i
+      pub share_found : {r : ℕ} {costs'' : List ℕ} → easy_weight s ∣ difficult_weight s → costs'' ≡ dealt_on n a (m - difficult) costs' → r ≡ max_to n (λ k. get_or costs'' k 0) → r ≡ maximin_share (as_marked s) i
       unfolding as_marked
-      share_found {r} {costs''} second top =
+      share_found {r} {costs''} divides second top =
           let ok = g.valid in
           let I = as_marked s in
           let same : costs'' ≡ dealt_costs I i max_agents = rw (second, first, zeros, light, weight, marks, g.agents, g.chores, difficult_marked s i, easy_marked s i) in
-          rw (top, same, g.agents, dealt_top I i ok.some_agent max_agents ok.agents_fit, share_dealt I i ok.some_agent ok.easy_positive (omega (arith, ok.easier)) g.divides)
+          rw (top, same, g.agents, dealt_top I i ok.some_agent max_agents ok.agents_fit, share_dealt I i ok.some_agent ok.easy_positive (omega (arith, ok.easier)) divides)

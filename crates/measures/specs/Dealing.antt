@@ -1,10 +1,7 @@
 -- Dealing by what the bundles cost alone: chores of one cost, each to the first of the cheapest bundles.
 use Rattle.std.specs.Prelude.{ℕ, zero, suc, ◌+◌, ◌*◌, ◌-◌, ◌^◌, ◌≤◌, ◌<◌, true, List, ◌≡◌, ltb, length, get_or, set}
-use Rattle.std.specs.Int.{◌∣◌}
 use Rattle.finite.specs.Search.{chosen}
 use Rattle.model.specs.Limits.{max_agents}
-use Rattle.model.specs.Sheet.{agents_of, chores_of, easy_weight, difficult_weight}
-use Rattle.sheet.specs.Valid.{Valid}
 
 -- the first of n costs that is least
 unfoldable pub cheapest : ℕ → List ℕ → ℕ
@@ -44,11 +41,3 @@ pub record LevelDealt (n w count : ℕ) (costs costs' : List ℕ) (r : ℕ) : Ty
   pub remain : r ≤ count
   pub fewer : 0 < count → r < count
   pub dealt : costs' ≡ dealt_on n w (count - r) costs
-
--- agent i's share is asked for, on a sheet that is not turned down
-pub record Measurable (s : List ℕ) (n m i : ℕ) : Type 0 where
-  pub valid : Valid s
-  pub divides : easy_weight s ∣ difficult_weight s
-  pub agents : n ≡ agents_of s
-  pub chores : m ≡ chores_of s
-  pub agent : i < agents_of s

@@ -2,17 +2,19 @@
 // that costs least so far. Only what the bundles cost is kept.
 #![tactic(auto)]
 
-ghost use Rattle.std.specs.Prelude.{◌≡◌, ◌≤◌, ◌<◌, MatchResult, get_or, replicate};
+ghost use Rattle.std.specs.Prelude.{◌≡◌, ◌≤◌, ◌<◌, ◌++◌, IfOk, MatchResult, get_or, drop, replicate};
+ghost use Rattle.std.specs.Int.{◌∣◌};
 ghost use Rattle.finite.specs.Sums.{max_to};
 ghost use Rattle.model.specs.Limits.{max_agents};
-ghost use Rattle.model.specs.Sheet.{as_marked};
-ghost use Rattle.model.specs.MaximinShare.{maximin_share};
+ghost use Rattle.model.specs.Sheet.{agents_of, easy_weight, difficult_weight, as_marked};
+ghost use Rattle.model.specs.MaximinShare.{maximin_share, measures_of};
 ghost use Rattle.model.specs.RefusalNumbers.{refusal_number, number_of};
 ghost use Rattle.model.specs.Refusals.{measures_refusal};
 ghost use Rattle.model.specs.Promises.{Measured};
-ghost use Rattle.measures.specs.Dealing.{cheapest, dealt_on, Dealing, LevelDealt, Measurable};
+ghost use Rattle.measures.specs.Dealing.{cheapest, dealt_on, Dealing, LevelDealt};
 
 use model::Refusal;
+use sheet::valid::Sheet;
 
 // One chore for each bundle that costs `least`, in their order, while there are chores left: each of them is the cheapest when its turn comes.
 // Returns how many are left.
@@ -61,43 +63,48 @@ fn costliest(n: usize, costs: &[u32; model::MAX_AGENTS]) -> u32
 }
 
 // Agent i's maximin share.
-fn share(sheet: &[u8], n: usize, m: usize, i: usize) -> u32
-    requires { Measurable sheet.now n m i }
+fn share(sheet: &Sheet, i: usize) -> u32
+    requires divides { easy_weight sheet.now ∣ difficult_weight sheet.now }
+    requires agent { i < agents_of sheet.now }
     ensures { result ≡ maximin_share (as_marked sheet.now) i }
 {
-    let a = sheet::easy_weight(sheet);
-    let b = sheet::difficult_weight(sheet);
-    let difficult = sheet::difficult_marks(sheet, m, i);
-    let easy = m - difficult;
+    let n = sheet.agents();
+    let difficult = sheet.difficult_marks(i);
+    let easy = sheet.chores() - difficult;
     let mut costs = [0; model::MAX_AGENTS];
-    deal(n, b, difficult, &mut costs);
-    deal(n, a, easy, &mut costs);
+    deal(n, sheet.difficult_weight(), difficult, &mut costs);
+    deal(n, sheet.easy_weight(), easy, &mut costs);
     costliest(n, &costs)
 }
 
-// What a sheet is turned down for that asks for the measures.
-fn admit(sheet: &[u8]) -> Result<(), Refusal>
-    ensures { number_of result ≡ measures_refusal sheet.now }
+// A sheet that the measures are told of, or what it is turned down for.
+pub fn admit(bytes: &[u8]) -> Result<Sheet<'_>, Refusal>
+    ensures number { number_of result ≡ measures_refusal bytes.now }
+    ensures same { IfOk result (λ sheet. sheet ≡ bytes.now) }
 {
-    sheet::admit_sheet(sheet)?;
-    let a = sheet::easy_weight(sheet);
-    let b = sheet::difficult_weight(sheet);
-    if b % a != 0 {
+    let sheet = Sheet::read(bytes)?;
+    if sheet.difficult_weight() % sheet.easy_weight() != 0 {
         return Err(Refusal::Multiple);
     }
-    Ok(())
+    Ok(sheet)
 }
 
-// The numbers of the agents in the first entries of a list. The others keep what they held, and with a refusal all of them do.
+// The numbers of the agents in the first entries of a list. The others keep what they held.
+pub fn write_shares(sheet: &Sheet, numbers: &mut [u32; model::MAX_AGENTS])
+    requires { easy_weight sheet.now ∣ difficult_weight sheet.now }
+    ensures { numbers.new ≡ measures_of sheet.now ++ drop (agents_of sheet.now) numbers.old }
+{
+    for i in 0..sheet.agents() {
+        numbers[i] = share(sheet, i);
+    }
+}
+
+// The same for a sheet that is judged first. With a refusal all entries keep what they held.
 pub fn measures_over(sheet: &[u8], numbers: &mut [u32; model::MAX_AGENTS]) -> Result<(), Refusal>
     ensures { Measured sheet.now numbers.old (number_of result) numbers.new }
 {
-    admit(sheet)?;
-    let n = sheet::agents(sheet);
-    let m = sheet::chores(sheet);
-    for i in 0..n {
-        numbers[i] = share(sheet, n, m, i);
-    }
+    let sheet = admit(sheet)?;
+    write_shares(&sheet, numbers);
     Ok(())
 }
 
