@@ -1,19 +1,18 @@
 -- Laws of burdens: the test, and what the search for one says of a burdened agent.
 -- Assumes nothing.
-use Prim.Native.Nat.{ℕ, ◌≤◌, ◌<◌}
-use mathlib.Core.Bool.{true, false, cond, not, ◌&&◌}
+use Prim.Native.Nat.{ℕ}
+use mathlib.Core.Bool.{true, false, not}
 use mathlib.Core.List.{List}
-use mathlib.Core.Path.{◌≡◌, sym, ap, ◌∙◌}
+use mathlib.Core.Path.{◌≡◌, refl, sym, ap, ◌∙◌}
 use borrow.Author.Tests.{not-true}
 use Rattle.std.specs.Prelude.{Option, is_some}
 use Rattle.finite.specs.Search.{any_below, first_below, if_below}
 use Rattle.finite.proofs.Tests.{by_test, and_elim, and_intro, and_no_left, and_no_right, not_on, not_off}
 use Rattle.model.specs.Instance.{owner_of}
-use Rattle.model.specs.Sheet.{is_difficult, marks_easy, as_marked}
+use Rattle.model.specs.Sheet.{chores_of, is_difficult, marks_easy, as_marked}
 use Rattle.model.specs.Fairness.{owns}
 use Rattle.welfare.specs.Waste.{burdened}
 use Rattle.welfare.proofs.Costs.{owned, owned_by, owned_not}
-use Rattle.given.specs.Given.{Given}
 use Rattle.given.specs.Burdens.{burdens}
 use Rattle.given.proofs.Found.{any_found}
 
@@ -44,12 +43,12 @@ module _ (s owners : List ℕ) (i c : ℕ) where
       (λ h. burdens_hit mine (not_off h) ∙ sym h)
       (λ h. burdens_easy (not_on h) ∙ sym h)
 
-module _ {s owners : List ℕ} {n m : ℕ} (g : Given s owners n m) where
+module _ (s owners : List ℕ) (i : ℕ) where
   -- an agent is burdened where some chore burdens it
-  pub burdened_any : (i : ℕ) → burdened (as_marked s) (owner_of owners) i ≡ any_below m (burdens s owners i)
+  pub burdened_any : burdened (as_marked s) (owner_of owners) i ≡ any_below (chores_of s) (burdens s owners i)
   unfolding burdened as_marked burdens
-  burdened_any i = rw g.chores
+  burdened_any = refl
 
   -- so where the search for one finds it
-  pub burdened_found : (i : ℕ) {r : Option ℕ} → r ≡ if_below m (first_below m (burdens s owners i)) → is_some r ≡ burdened (as_marked s) (owner_of owners) i
-  burdened_found i e = ap is_some e ∙ any_found m (burdens s owners i) ∙ sym (burdened_any i)
+  pub burdened_found : {r : Option ℕ} → r ≡ if_below (chores_of s) (first_below (chores_of s) (burdens s owners i)) → is_some r ≡ burdened (as_marked s) (owner_of owners) i
+  burdened_found e = ap is_some e ∙ any_found (chores_of s) (burdens s owners i) ∙ sym burdened_any

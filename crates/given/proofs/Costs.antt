@@ -24,14 +24,14 @@ module _ {x : ℕ} (either : x < 2) where
   pub either_cost : {a b r : ℕ} → (x ≡ 0 → r ≡ a) → (x ≡ 1 → r ≡ b) → r ≡ cond (eqb x 1) b a
   either_cost easy difficult = by_mark (λ e. rw e (easy e)) (λ e. rw e (difficult e))
 
-pub weighed_easier : {s : List ℕ} {m a b : ℕ} → Weighed s m a b → a ≤ b
+pub weighed_easier : {s : List ℕ} {a b : ℕ} → Weighed s a b → a ≤ b
 weighed_easier w = omega (arith, w.easy, w.difficult, w.valid.easier)
 
 -- a mark that was read
 pub read_marked : {a b mark : ℕ} → a ≤ b → (t : Bool) → mark ≡ cond t 1 0 → Marked a b mark
 read_marked easier t read = record { easier = easier; either = rw read (digit_below t) }
 
-module _ {s : List ℕ} {m a b : ℕ} (w : Weighed s m a b) (i c : ℕ) where
+module _ {s : List ℕ} {a b : ℕ} (w : Weighed s a b) (i c : ℕ) where
   -- a chore costs what its mark does
   pub cost_read : {r : ℕ} → r ≡ cond (eqb (cond (is_difficult s i c) 1 0) 1) b a → r ≡ cost (as_marked s) i c
   unfolding cost as_marked marks_easy

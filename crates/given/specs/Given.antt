@@ -8,19 +8,16 @@ use Rattle.sheet.specs.Valid.{Valid}
 abbrev pub given_refusal : List ℕ → List ℕ → ℕ
 given_refusal s owners = sheet_refusal s or_else owners_refusal (agents_of s) (chores_of s) owners
 
--- the accepted sheet s has n agents and m chores, and the list holds one owner per chore, from 1 to n
-pub record Given (s owners : List ℕ) (n m : ℕ) : Type 0 where
+-- the accepted sheet s, and a list that holds one owner per chore, from 1 to its number of agents
+pub record Given (s owners : List ℕ) : Type 0 where
   pub valid : Valid s
-  pub agents : n ≡ agents_of s
-  pub chores : m ≡ chores_of s
-  pub size : length owners ≡ m
-  pub positive : (c : ℕ) → c < m → 0 < get_or owners c 0
-  pub bounded : (c : ℕ) → c < m → get_or owners c 0 ≤ n
+  pub size : length owners ≡ chores_of s
+  pub positive : (c : ℕ) → c < chores_of s → 0 < get_or owners c 0
+  pub bounded : (c : ℕ) → c < chores_of s → get_or owners c 0 ≤ agents_of s
 
--- the accepted sheet s has m chores and the weights a and b
-pub record Weighed (s : List ℕ) (m a b : ℕ) : Type 0 where
+-- the accepted sheet s has the weights a and b
+pub record Weighed (s : List ℕ) (a b : ℕ) : Type 0 where
   pub valid : Valid s
-  pub chores : m ≡ chores_of s
   pub easy : a ≡ easy_weight s
   pub difficult : b ≡ difficult_weight s
 

@@ -2,10 +2,10 @@
 // the first difficult one.
 #![tactic(auto)]
 
-ghost use Rattle.std.specs.Prelude.{◌≡◌, ◌<◌, cond, eqb};
+ghost use Rattle.std.specs.Prelude.{◌≡◌, ◌<◌, cond, eqb, IfOk};
 ghost use Rattle.finite.specs.Search.{first_below, if_below};
 ghost use Rattle.model.specs.Instance.{owner_of};
-ghost use Rattle.model.specs.Sheet.{agents_of};
+ghost use Rattle.model.specs.Sheet.{agents_of, chores_of};
 ghost use Rattle.model.specs.RefusalNumbers.{number_of};
 ghost use Rattle.model.specs.Refusals.{owners_refusal};
 ghost use Rattle.sheet.specs.Readers.{Read};
@@ -13,14 +13,16 @@ ghost use Rattle.given.specs.Given.{given_refusal, Given, Owned, Marked};
 ghost use Rattle.given.specs.Burdens.{burdens};
 
 use model::Refusal;
+use sheet::valid::Sheet;
 
 // What a list of owners is turned down for.
-fn admit_owners(owners: &[u8], n: usize, m: usize) -> Result<(), Refusal>
-    ensures { number_of result ≡ owners_refusal n m owners.now }
+fn admit_owners(sheet: &Sheet, owners: &[u8]) -> Result<(), Refusal>
+    ensures { number_of result ≡ owners_refusal (agents_of sheet.now) (chores_of sheet.now) owners.now }
 {
-    if owners.len() != m {
+    if owners.len() != sheet.chores() {
         return Err(Refusal::OwnerCount);
     }
+    let n = sheet.agents();
     if !owners
         .iter()
         .all(|&owner| !sheet::out_of_range(owner as usize, n))
@@ -30,14 +32,14 @@ fn admit_owners(owners: &[u8], n: usize, m: usize) -> Result<(), Refusal>
     Ok(())
 }
 
-// What a sheet with a list of owners is turned down for. The list is read only where its sheet is whole.
-pub fn admit_given(sheet: &[u8], owners: &[u8]) -> Result<(), Refusal>
-    ensures { number_of result ≡ given_refusal sheet.now owners.now }
+// The sheet, or what it is turned down for with its list of owners. The list is read only where its sheet breaks no rule.
+pub fn read_given<'a>(bytes: &'a [u8], owners: &[u8]) -> Result<Sheet<'a>, Refusal>
+    ensures number { number_of result ≡ given_refusal bytes.now owners.now }
+    ensures same { IfOk result (λ sheet. sheet ≡ bytes.now) }
 {
-    sheet::admit_sheet(sheet)?;
-    let n = sheet::agents(sheet);
-    let m = sheet::chores(sheet);
-    admit_owners(owners, n, m)
+    let sheet = Sheet::read(bytes)?;
+    admit_owners(&sheet, owners)?;
+    Ok(sheet)
 }
 
 // The agent that owns a chore. Agents are counted from 0 here, and from 1 in a list of owners.
@@ -58,10 +60,10 @@ pub fn mark_cost(a: u32, b: u32, mark: u8) -> u32
 }
 
 // The first chore of agent i that is difficult for it.
-pub fn first_burden(sheet: &[u8], owners: &[u8], m: usize, i: usize) -> Option<usize>
-    requires given { Given sheet.now owners.now (agents_of sheet.now) m }
+pub fn first_burden(sheet: &Sheet, owners: &[u8], i: usize) -> Option<usize>
+    requires given { Given sheet.now owners.now }
     requires i_bound { i < agents_of sheet.now }
-    ensures { result ≡ if_below m (first_below m (burdens sheet.now owners.now i)) }
+    ensures { result ≡ if_below (chores_of sheet.now) (first_below (chores_of sheet.now) (burdens sheet.now owners.now i)) }
 {
-    (0..m).find(|&c| owner(owners, c) == i && !sheet::marks_easy(sheet, m, i, c))
+    (0..sheet.chores()).find(|&c| owner(owners, c) == i && !sheet.is_easy(i, c))
 }

@@ -40,55 +40,53 @@ use Rattle.waste.proofs.Tests.{takes_hit, takes_elim, passable_intro, passable_e
 use Rattle.waste.proofs.Rings.{rings_at_most, rings_reached, rings_nearest}
 
 -- an agent away from the burdened can hand a chore on
-module _ {s owners distances : List ℕ} {n m h : ℕ} (g : Given s owners n m) (rings : Rings (as_marked s) (owner_of owners) n distances) (away : Away distances n h) where
-  passable_some : any_below m (passable s owners distances n (get_or distances h 0) h) ≡ true
+module _ {s owners distances : List ℕ} {h : ℕ} (g : Given s owners) (rings : Rings (as_marked s) (owner_of owners) (agents_of s) distances) (away : Away s distances h) where
+  passable_some : any_below (chores_of s) (passable s owners distances (get_or distances h 0) h) ≡ true
   unfolding as_marked connected
   passable_some =
       let I = as_marked s in
       let x = owner_of owners in
       let t = get_or distances h 0 - 1 in
       let top : get_or distances h 0 ≡ suc t = omega (arith, away.away) in
-      let small : n < no_distance = omega (arith, g.agents, g.valid.agents_fit) in
-      let here : h < agents_of s = omega (arith, g.agents, away.here) in
+      let small : agents_of s < no_distance = omega (arith, g.valid.agents_fit) in
+      let here : h < agents_of s = away.here in
       let v = connected_added I x t h (rw top at (rings_reached rings small h here away.has)) (rings_nearest rings small h here away.has t (omega (arith, top))) in
       let j = v.next in
       let r = passes_elim I x h j v.linked in
       let e = r.chore in
-      let few : t ≤ n = omega (arith, rings_at_most rings small h here away.has) in
+      let few : t ≤ agents_of s = omega (arith, rings_at_most rings small h here away.has) in
       let near : get_or distances j 0 ≤ t = leb-true (get_or distances j 0) t (rings.within t j few v.below ∙ v.reached) in
-      let inside : j < n = omega (arith, g.agents, v.below) in
-      let below : e < m = omega (arith, g.chores, r.below) in
-      let taker = any_intro (takes s distances (get_or distances h 0) e) j inside (takes_hit s distances (get_or distances h 0) e j (omega (arith, top)) r.easy_there_lem) in
-      any_intro (passable s owners distances n (get_or distances h 0) h) e below (passable_intro s owners distances n (get_or distances h 0) h e r.owner r.easy_here_lem taker)
+      let taker = any_intro (takes s distances (get_or distances h 0) e) j v.below (takes_hit s distances (get_or distances h 0) e j (omega (arith, top)) r.easy_there_lem) in
+      any_intro (passable s owners distances (get_or distances h 0) h) e r.below (passable_intro s owners distances (get_or distances h 0) h e r.owner r.easy_here_lem taker)
 
   -- what the search for a chore answers: some chore e
-  module _ {o : Option ℕ} (search : o ≡ if_below m (first_below m (passable s owners distances n (get_or distances h 0) h))) where
+  module _ {o : Option ℕ} (search : o ≡ if_below (chores_of s) (first_below (chores_of s) (passable s owners distances (get_or distances h 0) h))) where
     pub passed_some : is_some o ≡ true
-    passed_some = ap is_some search ∙ any_found m (passable s owners distances n (get_or distances h 0) h) ∙ passable_some
+    passed_some = ap is_some search ∙ any_found (chores_of s) (passable s owners distances (get_or distances h 0) h) ∙ passable_some
 
     module _ {e : ℕ} (first : o ≡ Some e) where
-      passed_first : First m (passable s owners distances n (get_or distances h 0) h) e
-      passed_first = found_first (passable s owners distances n (get_or distances h 0) h) (sym first ∙ search)
+      passed_first : First (chores_of s) (passable s owners distances (get_or distances h 0) h) e
+      passed_first = found_first (passable s owners distances (get_or distances h 0) h) (sym first ∙ search)
 
-      pub passed_chore : e < m
+      pub passed_chore : e < chores_of s
       passed_chore = passed_first.below
 
-      passed : (owner_of owners e ≡ h) × (marks_easy s h e ≡ true) × (any_below n (takes s distances (get_or distances h 0) e) ≡ true)
-      passed = passable_elim s owners distances n (get_or distances h 0) h e passed_first.passes
+      passed : (owner_of owners e ≡ h) × (marks_easy s h e ≡ true) × (any_below (agents_of s) (takes s distances (get_or distances h 0) e) ≡ true)
+      passed = passable_elim s owners distances (get_or distances h 0) h e passed_first.passes
 
       -- and what the search for an agent that takes it does: some agent r
-      module _ {q : Option ℕ} (taking : q ≡ if_below n (first_below n (takes s distances (get_or distances h 0) e))) where
+      module _ {q : Option ℕ} (taking : q ≡ if_below (agents_of s) (first_below (agents_of s) (takes s distances (get_or distances h 0) e))) where
         pub taker_some : is_some q ≡ true
-        taker_some = ap is_some taking ∙ any_found n (takes s distances (get_or distances h 0) e) ∙ passed.2
+        taker_some = ap is_some taking ∙ any_found (agents_of s) (takes s distances (get_or distances h 0) e) ∙ passed.2
 
         module _ {r : ℕ} (taker : q ≡ Some r) where
-          taker_first : First n (takes s distances (get_or distances h 0) e) r
+          taker_first : First (agents_of s) (takes s distances (get_or distances h 0) e) r
           taker_first = found_first (takes s distances (get_or distances h 0) e) (sym taker ∙ taking)
 
-          pub passed_taker : r < n
+          pub passed_taker : r < agents_of s
           passed_taker = taker_first.below
 
-          pub passed_on : (list : List ℕ) → HandedOn s owners distances list (set list e (r + 1)) n m h r
+          pub passed_on : (list : List ℕ) → HandedOn s owners distances list (set list e (r + 1)) h r
           passed_on list =
               let both = takes_elim s distances (get_or distances h 0) e r taker_first.passes in
               record {
@@ -103,51 +101,49 @@ module _ {s owners distances : List ℕ} {n m h : ℕ} (g : Given s owners n m) 
               }
 
 -- what the walk leaves: entries that are agents' numbers, better for some and worse for nobody, and the rest as it was
-pub record Shown (s owners old new : List ℕ) (m : ℕ) : Type 0 where
-  pub long : m ≤ length new
-  pub positive : (d : ℕ) → d < m → 0 < get_or new d 0
+pub record Shown (s owners old new : List ℕ) : Type 0 where
+  pub long : chores_of s ≤ length new
+  pub positive : (d : ℕ) → d < chores_of s → 0 < get_or new d 0
   pub range : (d : ℕ) → d < (as_marked s).m → owner_of new d < (as_marked s).n
   pub better : Better (as_marked s) (owner_of new) (owner_of owners)
-  pub kept : drop m new ≡ drop m old
+  pub kept : drop (chores_of s) new ≡ drop (chores_of s) old
 
-pub shown_dominating : {s owners old new : List ℕ} {m : ℕ} → m ≡ chores_of s → Shown s owners old new m → Dominating s owners old new
+pub shown_dominating : {s owners old new : List ℕ} → Shown s owners old new → Dominating s owners old new
 unfolding as_marked owner_of
-shown_dominating {s} {owners} {old} {new} chores w =
-    let m = chores_of s in
-    let long : m ≤ length new = omega (arith, chores, w.long) in
-    let same : (c : ℕ) → c < m → owner_of (take m new) c ≡ owner_of new c = λ c l. ap (λ v. v - 1) (get_or-take m new c 0 l) in
+shown_dominating {s} {owners} {old} {new} w =
+    let same : (c : ℕ) → c < chores_of s → owner_of (take (chores_of s) new) c ≡ owner_of new c = λ c l. ap (λ v. v - 1) (get_or-take (chores_of s) new c 0 l) in
     record {
-      allocation = picks_allocation (as_marked s) (take m new) (record {
-        size = length-take-le m new long;
-        positive = λ c l. rw (get_or-take m new c 0 l) (w.positive c (omega (arith, chores)));
-        bounded = λ c l. rw (get_or-take m new c 0 l) (omega (arith, w.positive c (omega (arith, chores)), w.range c l));
+      allocation = picks_allocation (as_marked s) (take (chores_of s) new) (record {
+        size = length-take-le (chores_of s) new w.long;
+        positive = λ c l. rw (get_or-take (chores_of s) new c 0 l) (w.positive c l);
+        bounded = λ c l. rw (get_or-take (chores_of s) new c 0 l) (omega (arith, w.positive c l, w.range c l));
       });
-      dominating = dominates_cong (as_marked s) (owner_of (take m new)) (owner_of new) (owner_of owners) same ∙ dominates_intro w.better;
-      kept = rw chores at w.kept;
+      dominating = dominates_cong (as_marked s) (owner_of (take (chores_of s) new)) (owner_of new) (owner_of owners) same ∙ dominates_intro w.better;
+      kept = w.kept;
     }
 
 -- the walk
 
-module _ {s owners distances : List ℕ} {n m : ℕ} (g : Given s owners n m) (rings : Rings (as_marked s) (owner_of owners) n distances) where
-  few : n < no_distance
-  few = omega (arith, g.agents, g.valid.agents_fit)
+module _ {s owners distances : List ℕ} (g : Given s owners) (rings : Rings (as_marked s) (owner_of owners) (agents_of s) distances) where
+  few : agents_of s < no_distance
+  few = omega (arith, g.valid.agents_fit)
 
-  agent : {i : ℕ} → i < n → i < (as_marked s).n
+  agent : {i : ℕ} → i < agents_of s → i < (as_marked s).n
   unfolding as_marked
-  agent l = omega (arith, g.agents)
+  agent l = l
 
-  chore : {c : ℕ} → c < m → c < (as_marked s).m
+  chore : {c : ℕ} → c < chores_of s → c < (as_marked s).m
   unfolding as_marked
-  chore l = omega (arith, g.chores)
+  chore l = l
 
-  module _ {c : ℕ} (below : c < m) (hard : marks_easy s (owner_of owners c) c ≡ false) where
+  module _ {c : ℕ} (below : c < chores_of s) (hard : marks_easy s (owner_of owners c) c ≡ false) where
     -- c has been handed to j, on a copy of the owners in front of the rest of the list
-    pub way_start : {j : ℕ} {old : List ℕ} → Wasting s owners distances n m c j → m ≤ length old → OnTheWay s owners distances old (set (owners ++ drop m old) c (j + 1)) m c j
+    pub way_start : {j : ℕ} {old : List ℕ} → Wasting s owners distances c j → chores_of s ≤ length old → OnTheWay s owners distances old (set (owners ++ drop (chores_of s) old) c (j + 1)) c j
     unfolding as_marked owner_of
     way_start {j} {old} w long =
-        let mid = owners ++ drop m old in
-        let entry : (d : ℕ) → d < m → get_or mid d 0 ≡ get_or owners d 0 = λ d l. get_or_append_left owners (drop m old) 0 d (omega (arith, g.size)) in
-        let same : (d : ℕ) → d < m → owner_of mid d ≡ owner_of owners d = λ d l. ap (λ v. v - 1) (entry d l) in
+        let mid = owners ++ drop (chores_of s) old in
+        let entry : (d : ℕ) → d < chores_of s → get_or mid d 0 ≡ get_or owners d 0 = λ d l. get_or_append_left owners (drop (chores_of s) old) 0 d (omega (arith, g.size)) in
+        let same : (d : ℕ) → d < chores_of s → owner_of mid d ≡ owner_of owners d = λ d l. ap (λ v. v - 1) (entry d l) in
         let size : length mid ≡ length old = simp (length-append, length-drop) (omega (arith, g.size)) in
         let h = set_moves mid c j (omega (arith, size)) below (same c below) (start_apart (as_marked s) (owner_of owners) c (chore below) hard (owner_agent g) j w.easy) in
         let move : Moves (chores_of s) (owner_of owners) (owner_of (set mid c (j + 1))) c (owner_of owners c) j =
@@ -156,7 +152,7 @@ module _ {s owners distances : List ℕ} {n m : ℕ} (g : Given s owners n m) (r
           source = refl;
           target = h.target;
           apart = h.apart;
-          rest = λ d l ne. sym (same d (omega (arith, g.chores))) ∙ h.rest d (omega (arith, g.chores)) ne;
+          rest = λ d l ne. sym (same d l) ∙ h.rest d l ne;
         } in
         record {
           walking =
@@ -167,37 +163,37 @@ module _ {s owners distances : List ℕ} {n m : ℕ} (g : Given s owners n m) (r
               by_same d c
               (λ q. rw (q, get_or-set_same mid c (j + 1) 0 (omega (arith, size))) (omega arith))
               (λ ne. rw (get_or-set_other mid c d (j + 1) 0 ne, entry d l) (g.positive d l));
-          kept = drop-set-lt m mid c (j + 1) below ∙ drop-append-drop m old owners m (le_refl _) g.size;
+          kept = drop-set-lt (chores_of s) mid c (j + 1) below ∙ drop-append-drop (chores_of s) old owners (chores_of s) (le_refl _) g.size;
         }
 
-    module _ {old list : List ℕ} {h : ℕ} (w : OnTheWay s owners distances old list m c h) where
-      pub way_here : h < n
+    module _ {old list : List ℕ} {h : ℕ} (w : OnTheWay s owners distances old list c h) where
+      pub way_here : h < agents_of s
       unfolding as_marked
-      way_here = omega (arith, g.agents, w.walking.here)
+      way_here = w.walking.here
 
       pub way_has : get_or distances h 0 < no_distance
       unfolding as_marked
       way_has =
-          omega (arith, few, g.agents, connected_distance (as_marked s) (owner_of owners) (get_or distances h 0) h w.walking.here w.walking.reached w.walking.nearest)
+          omega (arith, few, connected_distance (as_marked s) (owner_of owners) (get_or distances h 0) h w.walking.here w.walking.reached w.walking.nearest)
 
-      pub way_away : 0 < get_or distances h 0 → Away distances n h
+      pub way_away : 0 < get_or distances h 0 → Away s distances h
       way_away l = record { here = way_here; has = way_has; away = l }
 
       -- a chore has been handed on
-      pub way_next : {new : List ℕ} {r : ℕ} → HandedOn s owners distances list new n m h r → OnTheWay s owners distances old new m c r
+      pub way_next : {new : List ℕ} {r : ℕ} → HandedOn s owners distances list new h r → OnTheWay s owners distances old new c r
       unfolding as_marked
       way_next {new} {r} e =
           let I = as_marked s in
           let x = owner_of owners in
           let t = get_or distances h 0 - 1 in
           let top : get_or distances h 0 ≡ suc t = omega (arith, e.nearer) in
-          let small : t ≤ n = omega (arith, rings_at_most rings few h (agent way_here) way_has) in
+          let small : t ≤ agents_of s = omega (arith, rings_at_most rings few h (agent way_here) way_has) in
           let reached : connected I x t r ≡ true = sym (rings.within t r small (agent e.taker)) ∙ le-leb (get_or distances r 0) t (omega (arith, e.nearer, top)) in
           let way = rw top at w.walking in
           let mine = step_holds I x c (chore below) hard (owner_agent g) e.chore way (chore e.below) e.mine in
           let move = set_moves list e.chore r w.long e.below mine (step_apart I x c (chore below) hard (owner_agent g) r way reached) in
           let step =
-          walk_step I x c (chore below) hard (owner_agent g) (owner_of list) (owner_of (set list e.chore (r + 1))) h t r e.chore way (agent e.taker) reached (chore e.below) e.mine e.easy_here e.easy_there (rw g.chores at move) in
+          walk_step I x c (chore below) hard (owner_agent g) (owner_of list) (owner_of (set list e.chore (r + 1))) h t r e.chore way (agent e.taker) reached (chore e.below) e.mine e.easy_here e.easy_there move in
           let last : t ≡ get_or distances r 0 =
           by_less (get_or distances r 0) t
           (λ l. absurd (clash (rings_reached rings few r (agent e.taker) (omega (arith, e.nearer, way_has))) (step.nearest (get_or distances r 0) l)))
@@ -210,18 +206,18 @@ module _ {s owners distances : List ℕ} {n m : ℕ} (g : Given s owners n m) (r
                 by_same d e.chore
                 (λ q. rw (q, get_or-set_same list e.chore (r + 1) 0 (omega (arith, e.below, w.long))) (omega arith))
                 (λ ne. rw (get_or-set_other list e.chore d (r + 1) 0 ne) (w.positive d l));
-            kept = drop-set-lt m list e.chore (r + 1) e.below ∙ w.kept;
+            kept = drop-set-lt (chores_of s) list e.chore (r + 1) e.below ∙ w.kept;
           })
 
       -- the walk has come to a burdened agent
       module _ (arrived : get_or distances h 0 ≡ 0) where
-        pub way_burden : first_below m (burdens s owners h) < m
+        pub way_burden : first_below (chores_of s) (burdens s owners h) < chores_of s
         way_burden =
-            ltb-true (first_below m (burdens s owners h)) m
-            (sym (any_first m (burdens s owners h)) ∙ sym (burdened_any g h) ∙ sym (connected_zero (as_marked s) (owner_of owners) h) ∙ rw arrived at w.walking.reached)
+            ltb-true (first_below (chores_of s) (burdens s owners h)) (chores_of s)
+            (sym (any_first (chores_of s) (burdens s owners h)) ∙ sym (burdened_any s owners h) ∙ sym (connected_zero (as_marked s) (owner_of owners) h) ∙ rw arrived at w.walking.reached)
 
         -- the owner of c itself has been relieved
-        way_back : h ≡ owner_of owners c → Shown s owners old list m
+        way_back : h ≡ owner_of owners c → Shown s owners old list
         unfolding as_marked
         way_back q =
             record {
@@ -233,16 +229,16 @@ module _ {s owners distances : List ℕ} {n m : ℕ} (g : Given s owners n m) (r
             }
 
         -- another agent has handed a difficult chore to the owner of c
-        way_handed : (h ≡ owner_of owners c → ⊥) → Shown s owners old (set list (first_below m (burdens s owners h)) (owner_of owners c + 1)) m
+        way_handed : (h ≡ owner_of owners c → ⊥) → Shown s owners old (set list (first_below (chores_of s) (burdens s owners h)) (owner_of owners c + 1))
         unfolding as_marked
         way_handed ne =
-            let f = first_below m (burdens s owners h) in
+            let f = first_below (chores_of s) (burdens s owners h) in
             let first = owner_of owners c in
-            let both = burdens_elim s owners h f (first_passes m (burdens s owners h) way_burden) in
+            let both = burdens_elim s owners h f (first_passes (chores_of s) (burdens s owners h) way_burden) in
             let way = rw arrived at w.walking in
             let mine = walk_holds (as_marked s) (owner_of owners) c (chore below) hard (owner_agent g) f way ne (chore way_burden) both.0 in
             let move : Moves (chores_of s) (owner_of list) (owner_of (set list f (first + 1))) f h first =
-            set_moves list f first (omega (arith, g.chores, w.long)) (omega (arith, g.chores, way_burden)) mine ne in
+            set_moves list f first (omega (arith, w.long)) (omega (arith, way_burden)) mine ne in
             record {
               long = simp length-set w.long;
               positive = λ d l.
@@ -252,10 +248,10 @@ module _ {s owners distances : List ℕ} {n m : ℕ} (g : Given s owners n m) (r
               range = moves_each move (λ d o. o < agents_of s) (owner_agent g c (chore below)) w.walking.range;
               better =
                   walk_end (as_marked s) (owner_of owners) c (chore below) hard (owner_agent g) g.valid.easier (owner_of list) (owner_of (set list f (first + 1))) h f way ne both.1 move;
-              kept = drop-set-lt m list f (first + 1) way_burden ∙ w.kept;
+              kept = drop-set-lt (chores_of s) list f (first + 1) way_burden ∙ w.kept;
             }
 
-        pub way_end : {i : ℕ} {new : List ℕ} → i ≡ owner_of owners c → Relieved s owners list new m i h → Shown s owners old new m
+        pub way_end : {i : ℕ} {new : List ℕ} → i ≡ owner_of owners c → Relieved s owners list new i h → Shown s owners old new
         way_end {i} e r =
             by_same h i (λ q. rw (r.back q) (way_back (q ∙ e)))
             (λ ne. rw (r.handed ne, e) (way_handed (λ q. ne (q ∙ sym e))))

@@ -1,7 +1,6 @@
 use mathlib.Core.Path.{refl}
 use Rattle.finite.proofs.Tests.{clash}
 use Rattle.waste.proofs.Shown.{dominated_search, wasted_chore, wasting_some, wasting}
-use Rattle.waste.proofs.Tests.{given_on_sheet}
 use Rattle.waste.proofs.show_waste.Goals as goal
 
 pub returns-in_default : goal.returns-in_default
@@ -13,7 +12,7 @@ returns-in_default c =
     }
 
 pub first_taker-requires : goal.first_taker-requires
-first_taker-requires c = given_on_sheet c.requires.given (wasted_chore c.requires.given c.find_distances-distances.ensures c.in-Some.ensures)
+first_taker-requires c = wasted_chore c.requires.given c.find_distances-distances.ensures c.in-Some.ensures
 
 pub unwrap-j-requires : goal.unwrap-j-requires
 unwrap-j-requires c = wasting_some c.requires.given c.find_distances-distances.ensures c.in-Some.ensures c.first_taker.ensures

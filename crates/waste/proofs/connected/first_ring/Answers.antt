@@ -19,19 +19,18 @@ loop-i-init c = (c.requires.distances_len, fill_zero _ c.args.distances.now)
 
 pub loop-i-preserved : goal.loop-i-preserved
 loop-i-preserved c =
-    let g = c.requires.given in
     let inv = c.loop-i.invariant in
-    let searched = burdened_found g c.loop-i.i c.first_burden.ensures in
+    let searched = burdened_found _ _ c.loop-i.i c.first_burden.ensures in
     let value : c.if-is_some.distances ≡ cond (burdened (as_marked c.args.sheet.now) (owner_of c.args.owners.now) c.loop-i.i) 0 no_distance =
     elim c.if-is_some.branch [
       | then-is_some w ↦ w.distances-is ∙ sym (cond_true 0 no_distance (sym (w.if-is_some.ensures ∙ searched)))
       | else-is_some w ↦ w.distances-is ∙ sym (cond_false 0 no_distance (sym (w.if-is_some.ensures ∙ searched)))
     ] in
-    let inside : c.loop-i.i < length c.loop-i.distances = omega (arith, inv.0, g.agents, g.valid.agents_fit) in
+    let inside : c.loop-i.i < length c.loop-i.distances = omega (arith, inv.0, c.agents-i-end.ensures.is, c.requires.given.valid.agents_fit) in
     (simp length-set inv.0, fill_next _ c.loop-i.distances inside value inv.1)
 
 pub returns : goal.returns
 unfolding as_marked
 returns c =
     let inv = c.loop-i.invariant in
-    rings_first _ _ inv.0 (λ i l. fill_at _ c.loop-i.distances i 0 (omega (arith, c.requires.given.agents)) inv.1)
+    rings_first _ _ inv.0 (λ i l. fill_at _ c.loop-i.distances i 0 (omega (arith, c.agents-i-end.ensures.is)) inv.1)

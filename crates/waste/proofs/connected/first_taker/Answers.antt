@@ -5,4 +5,6 @@ use Rattle.waste.proofs.connected.first_taker.Goals as goal
 
 pub returns : goal.returns
 unfolding takes
-returns c = found_in c.args.n (takes c.args.sheet.now c.args.distances.now c.args.limit c.args.c) _ _ c.find.result c.find.ensures.ran (λ x b q k. search (rules, tests))
+returns c =
+    rw (← c.agents.ensures.is)
+    (found_in c.agents.result (takes c.args.sheet.now c.args.distances.now c.args.limit c.args.c) _ _ c.find.result c.find.ensures.ran (λ x b q k. search (rules, tests)))

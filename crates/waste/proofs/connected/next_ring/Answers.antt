@@ -19,7 +19,7 @@ loop-j-preserved c =
     let p = c.requires in
     let j = c.loop-j.j in
     let link = ring_link (as_marked a.sheet.now) (owner_of a.owners.now) a.distances.now a.t in
-    let at = spread_ring (omega (arith, p.given.valid.agents_fit)) c.loop-j.invariant j (omega (arith, p.given.agents)) in
+    let at = spread_ring (omega (arith, p.given.valid.agents_fit)) c.loop-j.invariant j (omega (arith, c.agents-j-end.ensures.is)) in
     let agent : Spread (agents_of a.sheet.now) (a.t + 1) (λ i. link i j) c.loop-j.distances c.if-distances-j.distances =
     elim c.if-distances-j.branch [
       | then-distances-j w ↦ rw w.distances-is (spread_cong (λ i l. ring_link_on _ _ _ _ _ _ (at ∙ eq-eqb _ _ w.if-distances-j.true)) w.spread_from.ensures)
@@ -31,5 +31,5 @@ pub returns : goal.returns
 unfolding as_marked
 returns c =
     let p = c.requires in
-    let done : c.loop-j.j ≡ agents_of c.args.sheet.now = omega (arith, p.given.agents) in
+    let done : c.loop-j.j ≡ agents_of c.args.sheet.now = omega (arith, c.agents-j-end.ensures.is) in
     rings_next p.rings (omega (arith, p.given.valid.agents_fit)) (rw done at c.loop-j.invariant)

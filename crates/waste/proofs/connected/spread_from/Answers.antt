@@ -4,7 +4,7 @@ use mathlib.Core.Bool.{false}
 use native.Mathlib.Omega.{arith}
 use Rattle.finite.proofs.Search.{any_zero}
 use Rattle.model.specs.Limits.{max_agents}
-use Rattle.model.specs.Sheet.{agents_of}
+use Rattle.model.specs.Sheet.{agents_of, chores_of}
 use Rattle.waste.specs.Rings.{Spread}
 use Rattle.waste.specs.Tests.{shares}
 use Rattle.given.proofs.Given.{owner_below}
@@ -13,9 +13,12 @@ use Rattle.waste.proofs.Rings.{spread_none, spread_cong, spread_next, spread_kep
 use Rattle.waste.proofs.connected.spread_from.Goals as goal
 use Rattle.waste.proofs.connected.spread_from.Goals.{After-owner-i, then-distances-i+then-easy_for_both, else-distances-i, else-distances-i-via-then-distances-i+else-easy_for_both, else-distances-i-via-else-distances-i}
 
+chore : (c : After-owner-i) → c.loop-c.c < chores_of c.args.sheet.now
+chore c = omega (arith, c.chores-c-end.ensures.is)
+
 -- the chore's owner is one of the sheet's agents, of whom there are few
 agent : (c : After-owner-i) → c.owner-i.result < agents_of c.args.sheet.now
-agent c = rw c.owner-i.ensures.is (owner_below c.requires.given _ c.loop-c-test.true)
+agent c = rw c.owner-i.ensures.is (owner_below c.requires.given _ (chore c))
 
 few : (c : After-owner-i) → c.owner-i.result < max_agents
 few c = omega (arith, agent c, c.requires.given.valid.agents_fit)
@@ -28,8 +31,8 @@ bounds-distances-i c = few (goal.at.bounds-distances-i c).After-owner-i
 
 pub easy_for_both-requires : goal.easy_for_both-requires
 easy_for_both-requires c =
-    let p = c.requires in
-    record { valid = p.given.valid; chores = p.given.chores; one = agent (goal.at.easy_for_both-requires c).After-owner-i; other = p.j_bound; chore = c.loop-c-test.true }
+    let at = (goal.at.easy_for_both-requires c).After-owner-i in
+    record { agents = (agent at, c.requires.j_bound); chore = chore at }
 
 pub loop-c-preserved : goal.loop-c-preserved
 loop-c-preserved c =
@@ -52,5 +55,5 @@ loop-c-preserved c =
 
 pub returns : goal.returns
 returns c =
-    let done : c.loop-c.c ≡ c.args.m = omega arith in
-    spread_cong (λ i l. passes_shares c.requires.given i c.args.j) (rw done at c.loop-c.invariant)
+    let done : c.loop-c.c ≡ chores_of c.args.sheet.now = omega (arith, c.chores-c-end.ensures.is) in
+    spread_cong (λ i l. passes_shares _ _ i c.args.j) (rw done at c.loop-c.invariant)

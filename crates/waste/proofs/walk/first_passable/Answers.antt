@@ -7,4 +7,6 @@ use Rattle.waste.proofs.walk.first_passable.Goals as goal
 
 pub returns : goal.returns
 unfolding passable owns
-returns c = found_in c.args.m (passable c.args.sheet.now c.args.owners.now c.args.distances.now c.args.n c.args.limit c.args.h) _ _ c.find.result c.find.ensures.ran (λ x b q k. search (rules, tests, any_found))
+returns c =
+    rw (← c.chores.ensures.is)
+    (found_in c.chores.result (passable c.args.sheet.now c.args.owners.now c.args.distances.now c.args.limit c.args.h) _ _ c.find.result c.find.ensures.ran (λ x b q k. search (rules, tests, any_found)))

@@ -3,13 +3,14 @@ use native.Mathlib.Omega.{arith}
 use Rattle.std.specs.Prelude.{is_some}
 use Rattle.finite.specs.Search.{first_below}
 use Rattle.finite.proofs.Found.{below_some}
+use Rattle.model.specs.Sheet.{chores_of}
 use Rattle.given.specs.Burdens.{burdens}
 use Rattle.given.proofs.Found.{found_is}
 use Rattle.waste.proofs.walk.relieve.Goals as goal
 use Rattle.waste.proofs.walk.relieve.Goals.{After-unwrap-f}
 
 -- the chore found
-burden : (c : After-unwrap-f) → c.unwrap-f.result ≡ first_below c.args.m (burdens c.args.sheet.now c.args.owners.now c.args.h)
+burden : (c : After-unwrap-f) → c.unwrap-f.result ≡ first_below (chores_of c.args.sheet.now) (burdens c.args.sheet.now c.args.owners.now c.args.h)
 burden c = (found_is (sym c.unwrap-f.ensures ∙ c.first_burden.ensures)).0
 
 pub unwrap-f-requires : goal.unwrap-f-requires

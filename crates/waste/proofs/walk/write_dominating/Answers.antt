@@ -2,19 +2,20 @@ use Prim.Native.Nat.{◌<◌}
 use mathlib.Core.Path.{◌≡◌}
 use native.Mathlib.Omega.{arith}
 use lib.ListN.{get_or}
-use Rattle.given.proofs.Given.{owner_below, given_agents}
+use Rattle.model.specs.Sheet.{agents_of}
+use Rattle.given.proofs.Given.{owner_below}
 use Rattle.waste.proofs.Walking.{way_start, way_here, way_away, way_next, way_burden, way_end, shown_dominating}
 use Rattle.waste.proofs.walk.write_dominating.Goals as goal
 
 pub loop-h-init : goal.loop-h-init
 loop-h-init c =
     let p = c.requires in
-    rw c.copy_from_slice.ensures.after (way_start p.walkable.given p.walkable.rings p.wasting.chore p.wasting.hard p.wasting p.walkable.long)
+    rw (c.copy_from_slice.ensures.after, c.chores.ensures.is) (way_start p.walkable.given p.walkable.rings p.wasting.chore p.wasting.hard p.wasting p.walkable.long)
 
 pub bounds-distances-h : goal.bounds-distances-h
 bounds-distances-h c =
     let p = c.requires in
-    omega (arith, way_here p.walkable.given p.walkable.rings p.wasting.chore p.wasting.hard c.loop-h.invariant, p.walkable.given.agents, p.walkable.given.valid.agents_fit)
+    omega (arith, way_here p.walkable.given p.walkable.rings p.wasting.chore p.wasting.hard c.loop-h.invariant, p.walkable.given.valid.agents_fit)
 
 pub hand_on-h-requires-clause-away : goal.hand_on-h-requires-clause-away
 hand_on-h-requires-clause-away c =
@@ -28,15 +29,15 @@ loop-h-preserved c =
 
 pub relieve-requires : goal.relieve-requires
 relieve-requires c =
-    let owner : c.owner-i.result < c.args.n = rw c.owner-i.ensures.is (owner_below c.requires.walkable.given _ c.requires.wasting.chore) in
+    let owner : c.owner-i.result < agents_of c.args.sheet.now = rw c.owner-i.ensures.is (owner_below c.requires.walkable.given _ c.requires.wasting.chore) in
     let p = c.requires in
     let inv = c.loop-h.invariant in
     let g = p.walkable.given in
     let arrived : get_or c.args.distances.now c.loop-h.h 0 ≡ 0 = omega (arith, c.loop-h-test.false) in
     record {
-      given = given_agents g;
-      taker = omega (arith, owner, g.agents);
-      here = omega (arith, way_here g p.walkable.rings p.wasting.chore p.wasting.hard inv, g.agents);
+      given = g;
+      taker = owner;
+      here = way_here g p.walkable.rings p.wasting.chore p.wasting.hard inv;
       burden = way_burden g p.walkable.rings p.wasting.chore p.wasting.hard inv arrived;
       long = inv.long;
     }
@@ -47,4 +48,4 @@ returns c =
     let g = p.walkable.given in
     let inv = c.loop-h.invariant in
     let arrived : get_or c.args.distances.now c.loop-h.h 0 ≡ 0 = omega (arith, c.loop-h-test.false) in
-    shown_dominating g.chores (way_end g p.walkable.rings p.wasting.chore p.wasting.hard inv arrived c.owner-i.ensures.is c.relieve.ensures)
+    shown_dominating (way_end g p.walkable.rings p.wasting.chore p.wasting.hard inv arrived c.owner-i.ensures.is c.relieve.ensures)

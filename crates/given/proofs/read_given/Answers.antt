@@ -1,0 +1,20 @@
+-- The sheet decides, or else the list of owners.
+use Rattle.std.proofs.Common.{arith}
+use Rattle.std.proofs.lemmas.Bool.Decides.{nat_tests}
+use Rattle.model.specs.Refusals.{◌or_else◌}
+use Rattle.model.proofs.Refusing.{at_exit}
+use Rattle.given.proofs.read_given.Goals as goal
+
+pub returns-in_err-sheet-clause-number : goal.returns-in_err-sheet-clause-number
+unfolding ◌or_else◌
+returns-in_err-sheet-clause-number c = let e = at_exit c.from_residual.result _ c.from_residual.ensures.1 c.in_err-sheet.ensures.number in grind (arith, nat_tests, e)
+
+pub returns-in_err-admit_owners-clause-number : goal.returns-in_err-admit_owners-clause-number
+unfolding ◌or_else◌
+returns-in_err-admit_owners-clause-number c =
+    let e = at_exit c.from_residual-in_err-admit_owners.result _ c.from_residual-in_err-admit_owners.ensures.1 c.in_err-admit_owners.ensures in
+    grind (arith, nat_tests, e)
+
+pub returns-clause-number : goal.returns-clause-number
+unfolding ◌or_else◌
+returns-clause-number c = grind (arith, nat_tests)
