@@ -1,32 +1,31 @@
 -- What a share-out promises, for a sheet to whose share-out lists of enough entries are lent; and the text of that sheet.
 -- Assumes nothing.
 use Prim.Native.Nat.{ℕ, ◌≤◌}
-use mathlib.Core.Bool.{true, false}
 use mathlib.Core.List.{List}
 use mathlib.Core.Path.{◌≡◌, refl, sym, ap, ◌∙◌}
 use native.Mathlib.Omega.{arith}
-use lib.Dec.{eqb}
 use lib.ListN.{length}
 use borrow.Author.Tests.{eq-eqb, ne_eqb}
 use Rattle.finite.proofs.Below.{by_same}
+use Rattle.std.specs.Prelude.{Result, Ok, Err}
+use Rattle.model.specs.declared.Refusal.{Refusal}
 use Rattle.model.specs.declared.ShareOut.{ShareOut}
 use Rattle.model.specs.Limits.{max_chores}
 use Rattle.model.specs.Algorithm.{State}
 use Rattle.model.specs.Refusals.{sheet_refusal}
+use Rattle.model.specs.RefusalNumbers.{refusal_number}
 use Rattle.model.specs.Replies.{share_out_reply, refused, shared}
 use Rattle.model.specs.Promises.{SharedOut, NotShared}
-use Rattle.sheet.proofs.Refusal.{valid, accepted}
+use Rattle.sheet.proofs.Refusal.{valid}
 use Rattle.allocation.specs.Final.{final_of}
-use Rattle.allocation.proofs.Final.{final_demand3, owners_long, prices_long}
-use Rattle.text.specs.Put.{Put}
+use Rattle.allocation.proofs.Final.{final_demand3}
 use Rattle.text.specs.Lines.{refused_line}
-use Rattle.text.proofs.Putting.{put_more}
 use Rattle.tally.specs.Counting.{moves_added, cuts_added}
 use Rattle.pages.specs.Printer.{Printer, Unbroken, text_of, adds_of}
-use Rattle.pages.specs.Answered.{Ran, Left, Answered}
+use Rattle.pages.specs.Answered.{Left, TurnedDown, Answered}
 
 -- a share-out is turned down with its number, or comes back with its final state
-module _ (P : Printer) (unbroken : Unbroken P) {s owners prices scratch owners' prices' scratch' : List ℕ} {number : ℕ} {r : ShareOut} (is : number ≡ P.refusal s) (some : number ≡ 0 → SharedOut s owners prices scratch owners' prices' scratch' r) (none : (number ≡ 0 → ⊥) → NotShared number owners prices scratch owners' prices' scratch' r) where
+module _ (P : Printer) (unbroken : Unbroken P) {s owners prices scratch owners' prices' scratch' : List ℕ} {number : ℕ} {r : Result ShareOut Refusal} (is : number ≡ P.refusal s) (some : number ≡ 0 → SharedOut s owners prices scratch owners' prices' scratch' r) (none : (number ≡ 0 → ⊥) → NotShared number owners prices scratch owners' prices' scratch' r) where
   module _ (z : number ≡ 0) where
     taken : sheet_refusal s ≡ 0
     taken = unbroken s (sym is ∙ z)
@@ -39,10 +38,10 @@ module _ (P : Printer) (unbroken : Unbroken P) {s owners prices scratch owners' 
     answer_is = (some z).answer ∙ ap (λ (x : State). shared x.moves x.cuts) final_is
 
   module _ (o : max_chores ≤ length owners') (p : max_chores ≤ length prices') where
-    left : number ≡ 0 → (count cuts : ℕ) → r ≡ ShareOut.Shared count cuts → Left P s count cuts owners' prices'
-    left z count cuts e =
+    left : number ≡ 0 → (out : ShareOut) → r ≡ Ok out → Left P s out.moves out.cuts owners' prices'
+    left z out e =
         let v = valid s (taken z) in
-        let q : shared count cuts ≡ shared (final_of s).moves (final_of s).cuts = sym (ap share_out_reply e) ∙ answer_is z in
+        let q : shared out.moves out.cuts ≡ shared (final_of s).moves (final_of s).cuts = sym (ap share_out_reply e) ∙ answer_is z in
         record {
           accepted = sym is ∙ z;
           owners_fit = omega (arith, v.chores_fit);
@@ -61,50 +60,38 @@ module _ (P : Printer) (unbroken : Unbroken P) {s owners prices scratch owners' 
         by_same number 0
         (λ z.
         record {
-          turned_down = λ k e. let q : refused k ≡ shared (final_of s).moves (final_of s).cuts = sym (ap share_out_reply e) ∙ answer_is z in let w : ◌≡◌ {A = ℕ} 0 1 = cc in absurd (omega arith);
+          turned_down = λ k e. let q : refused (refusal_number k) ≡ shared (final_of s).moves (final_of s).cuts = sym (ap share_out_reply e) ∙ answer_is z in let w : ◌≡◌ {A = ℕ} 0 1 = cc in absurd (omega arith);
           shared_out = left z;
         })
         (λ h.
         record {
-          turned_down = λ k e. let q : refused k ≡ refused number = sym (ap share_out_reply e) ∙ (none h).answer in let same : k ≡ number = cc in record { number = same ∙ is; some = λ w. h (sym same ∙ w) };
-          shared_out = λ count cuts e. let q : shared count cuts ≡ refused number = sym (ap share_out_reply e) ∙ (none h).answer in let w : ◌≡◌ {A = ℕ} 0 1 = cc in absurd (omega arith);
+          turned_down = λ k e. let q : refused (refusal_number k) ≡ refused number = sym (ap share_out_reply e) ∙ (none h).answer in let same : refusal_number k ≡ number = cc in record { number = same ∙ is; some = λ w. h (sym same ∙ w) };
+          shared_out = λ out e. let q : shared out.moves out.cuts ≡ refused number = sym (ap share_out_reply e) ∙ (none h).answer in let w : ◌≡◌ {A = ℕ} 0 1 = cc in absurd (omega arith);
         })
 
--- a sheet that was shared out has an entry for each chore
-module _ {s owners prices : List ℕ} {count cuts : ℕ} (R : Ran s count cuts owners prices) where
-  pub owners_few_lem : length owners ≤ max_chores
-  owners_few_lem = omega (arith, ap length R.owners_are, owners_long s (accepted s R.valid), R.valid.chores_fit)
-
-  pub prices_few_lem : length prices ≤ max_chores
-  prices_few_lem = omega (arith, ap length R.prices_are, prices_long s (accepted s R.valid), R.valid.chores_fit)
-
-module _ {P : Printer} {s owners prices : List ℕ} {answer : ShareOut} (A : Answered P s owners prices answer) where
-  pub refused_text : {k r most : ℕ} {out out' : List ℕ} (number : ℕ) → answer ≡ ShareOut.Refused k → Put 56 (refused_line number k) out 0 out' r → 56 ≤ most → Put most (text_of P s number) out 0 out' r
+-- the text of a sheet: that of its refusal, or its lines
+module _ (P : Printer) (s : List ℕ) (number : ℕ) where
+  pub refused_text : {k : ℕ} → TurnedDown P s k → text_of P s number ≡ refused_line number k
   unfolding text_of
-  refused_text {k} number e T l =
-      let told = A.turned_down k e in
-      let t : eqb (P.refusal s) 0 ≡ false = ne_eqb (P.refusal s) 0 (λ z. told.some (told.number ∙ z)) in
-      rw t (put_more (rw told.number at T) l)
+  refused_text D = rw (ne_eqb (P.refusal s) 0 (λ z. D.some (D.number ∙ z)), D.number)
 
-pub accepted_text : (P : Printer) {s : List ℕ} {r most : ℕ} {out out' : List ℕ} (number : ℕ) → P.refusal s ≡ 0 → Put most (P.lines s number) out 0 out' r → Put most (text_of P s number) out 0 out' r
-unfolding text_of
-accepted_text P {s} number z T =
-    let t : eqb (P.refusal s) 0 ≡ true = eq-eqb (P.refusal s) 0 z in
-    rw t T
+  pub accepted_text : P.refusal s ≡ 0 → text_of P s number ≡ P.lines s number
+  unfolding text_of
+  accepted_text z = rw (eq-eqb (P.refusal s) 0 z)
 
 -- what an answer adds to the tally: `told` is what it says of what is counted
 module _ (P : Printer) {s owners prices : List ℕ} where
-  adds_told : (told : ShareOut → ℕ) (counted : State → ℕ) → ((k : ℕ) → told (ShareOut.Refused k) ≡ 0) → ((m c : ℕ) → m ≡ (final_of s).moves → c ≡ (final_of s).cuts → told (ShareOut.Shared m c) ≡ counted (final_of s)) → (answer : ShareOut) → Answered P s owners prices answer → told answer ≡ adds_of P counted s
+  adds_told : (told : Result ShareOut Refusal → ℕ) (counted : State → ℕ) → ((k : Refusal) → told (Err k) ≡ 0) → ((out : ShareOut) → out.moves ≡ (final_of s).moves → out.cuts ≡ (final_of s).cuts → told (Ok out) ≡ counted (final_of s)) → (answer : Result ShareOut Refusal) → Answered P s owners prices answer → told answer ≡ adds_of P counted s
   unfolding adds_of
-  adds_told told counted none some (ShareOut.Refused k) A =
+  adds_told told counted none some (Err k) A =
       let down = A.turned_down k refl in
       rw (ne_eqb (P.refusal s) 0 (λ z. down.some (down.number ∙ z))) (none k)
-  adds_told told counted none some (ShareOut.Shared m c) A =
-      let L = A.shared_out m c refl in
-      rw (eq-eqb (P.refusal s) 0 L.accepted) (some m c L.ran.count_is L.ran.cuts_are)
+  adds_told told counted none some (Ok out) A =
+      let L = A.shared_out out refl in
+      rw (eq-eqb (P.refusal s) 0 L.accepted) (some out L.ran.count_is L.ran.cuts_are)
 
-  pub adds_moves : (answer : ShareOut) → Answered P s owners prices answer → moves_added answer ≡ adds_of P (λ x. x.moves) s
-  adds_moves = adds_told moves_added (λ x. x.moves) (λ k. refl) (λ m c e f. e)
+  pub adds_moves : (answer : Result ShareOut Refusal) → Answered P s owners prices answer → moves_added answer ≡ adds_of P (λ x. x.moves) s
+  adds_moves = adds_told moves_added (λ x. x.moves) (λ k. refl) (λ out e f. e)
 
-  pub adds_cuts : (answer : ShareOut) → Answered P s owners prices answer → cuts_added answer ≡ adds_of P (λ x. x.cuts) s
-  adds_cuts = adds_told cuts_added (λ x. x.cuts) (λ k. refl) (λ m c e f. f)
+  pub adds_cuts : (answer : Result ShareOut Refusal) → Answered P s owners prices answer → cuts_added answer ≡ adds_of P (λ x. x.cuts) s
+  adds_cuts = adds_told cuts_added (λ x. x.cuts) (λ k. refl) (λ out e f. f)

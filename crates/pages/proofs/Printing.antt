@@ -1,17 +1,20 @@
 -- A book printed sheet by sheet, with the tally: the texts, one after the other, are the text of the book.
 -- Assumes nothing.
-use Prim.Native.Nat.{ℕ, zero, suc, ◌+◌, ◌-◌, ◌≤◌, ◌<◌, zero-le}
+use Prim.Native.Nat.{ℕ, zero, suc, ◌+◌, ◌≤◌, ◌<◌, zero-le}
 use mathlib.Core.List.{List, ◌++◌}
 use mathlib.Core.Path.{◌≡◌, refl, sym, ap, ap₂, ◌∙◌}
 use native.Mathlib.Nat.{le_of_lt, le_refl}
+use native.Mathlib.Numerals.{add-one}
 use native.Mathlib.Omega.{arith}
 use lib.Dec.{eqb}
-use lib.ListN.{length, take}
 use borrow.Author.Tests.{eq-eqb, ne_eqb, eqb-true}
-use Rattle.io.proofs.Counting.{prefix_len_of_le}
 use Rattle.finite.proofs.Tests.{cond-le}
 use Rattle.finite.proofs.Below.{by_same}
 use Rattle.finite.proofs.Sums.{sum_zero, sum_next, sum_at_most}
+use Rattle.std.specs.Prelude.{Option, Result, Ok, Err, OnOk}
+use Rattle.std.specs.Io.KnownBytes.{Keeps, Appends}
+use Rattle.std.proofs.KnownBytes.{Appends-nil, Appends-trans, Appends-kept}
+use Rattle.model.specs.declared.Refusal.{Refusal}
 use Rattle.model.specs.declared.ShareOut.{ShareOut}
 use Rattle.model.specs.declared.Tally.{Tally}
 use Rattle.model.specs.Limits.{max_agents, max_sheets}
@@ -25,17 +28,11 @@ use Rattle.allocation.specs.Final.{final_of}
 use Rattle.allocation.proofs.Final.{few_moves, few_cuts}
 use Rattle.tally.specs.Counting.{moves_added, cuts_added, Fitting, Counted}
 use Rattle.text.specs.Text.{joined}
-use Rattle.text.specs.Put.{Put}
 use Rattle.text.specs.Lines.{book_refused_line, total_line}
-use Rattle.pages.specs.declared.SheetText.{SheetText}
-use Rattle.pages.specs.Printer.{Printer, Unbroken, to_print, last_text, text_of, adds_of, sheet_text, tally_to, last_of}
-use Rattle.pages.specs.Printing.{Shows, SheetShown, NextText, FinalText, Passed}
+use Rattle.pages.specs.Printer.{Printer, Unbroken, to_print, last_text, text_of, adds_of, sheet_text, tally_to, last_of, book_text}
+use Rattle.pages.specs.Printing.{SheetShown, Passed}
 use Rattle.pages.specs.Answered.{Answered}
 use Rattle.pages.proofs.Answering.{adds_moves, adds_cuts}
-
--- a text put into a buffer that has room for it
-pub shown : {text out out' : List ℕ} {most r : ℕ} → Put most text out 0 out' r → most ≤ length out' → Shows text out' r
-shown T room = record { counts = prefix_len_of_le _ _ (omega (arith, T.few)); made = T.made }
 
 module _ (book : List ℕ) where
   module _ (z : contents_refusal book ≡ 0) where
@@ -64,11 +61,11 @@ module _ (book : List ℕ) where
       (λ h. absurd (omega (arith, none_printed h)))
 
 module _ (P : Printer) (book : List ℕ) where
-  pub sheet_shown : {j end most : ℕ} {sheet owners prices out out' : List ℕ} {answer : ShareOut} → sheet ≡ sheet_of book j → Answered P sheet owners prices answer → Put most (text_of P sheet (j + 1)) out 0 out' end → most ≤ length out' → SheetShown P book j out' (record { end = end; answer = answer })
+  pub sheet_shown : {j : ℕ} {sheet owners prices : List ℕ} {answer : Result ShareOut Refusal} (old new : Option (List ℕ)) → sheet ≡ sheet_of book j → Answered P sheet owners prices answer → Appends old new (text_of P sheet (j + 1)) → SheetShown P book j old new answer
   unfolding sheet_text
-  sheet_shown {j} {answer = answer} same A T room =
+  sheet_shown {j} {answer = answer} old new same A T =
       record {
-        shows = rw (← same) (shown T room);
+        shows = rw (← same) T;
         moves = adds_moves P answer A ∙ ap (adds_of P (λ x. x.moves)) same;
         cuts = adds_cuts P answer A ∙ ap (adds_of P (λ x. x.cuts)) same;
       }
@@ -79,13 +76,13 @@ module _ (P : Printer) (book : List ℕ) where
   adds_few unbroken counted top few s = cond-le (eqb (P.refusal s) 0) (λ t. few s (unbroken s (eqb-true (P.refusal s) 0 t))) (λ t. zero-le)
 
   -- before any sheet
-  pub begin : {out : List ℕ} {total : Tally} → (total.moves ≡ 0) × (total.cuts ≡ 0) → Passed P book out out total 0
-  unfolding tally_to
-  begin none = record { within = zero-le; sized = refl; moves = none.0 ∙ sym (sum_zero _); cuts = none.1 ∙ sym (sum_zero _) }
+  pub begin : (old : Option (List ℕ)) {total : Tally} → (total.moves ≡ 0) × (total.cuts ≡ 0) → Passed P book old old total 0
+  unfolding tally_to joined
+  begin old none = record { within = zero-le; shows = Appends-nil old; moves = none.0 ∙ sym (sum_zero _); cuts = none.1 ∙ sym (sum_zero _) }
 
   -- from sheet to sheet
-  module _ {out out' out'' : List ℕ} {total : Tally} {j : ℕ} {r : SheetText} (l : j < to_print book) (Q : Passed P book out out' total j) (S : SheetShown P book j out'' r) where
-    pub fitting : Unbroken P → Fitting total (moves_added r.answer) (cuts_added r.answer)
+  module _ {old now new : Option (List ℕ)} {total : Tally} {j : ℕ} {answer : Result ShareOut Refusal} (l : j < to_print book) (Q : Passed P book old now total j) (S : SheetShown P book j now new answer) where
+    pub fitting : Unbroken P → Fitting total (moves_added answer) (cuts_added answer)
     unfolding tally_to
     fitting unbroken =
         let I = in_book book l in
@@ -97,29 +94,27 @@ module _ (P : Printer) (book : List ℕ) where
           cuts = omega (arith, Q.cuts, S.cuts, cut (sheet_of book j), sum_at_most j max_agents (λ i m. cut (sheet_of book i)));
         }
 
-    pub onward : {total' : Tally} → length out'' ≡ length out' → Counted total (moves_added r.answer) (cuts_added r.answer) total' → Passed P book out out'' total' (j + 1)
-    unfolding tally_to
-    onward same C =
+    pub onward : (flushed : Option (List ℕ)) {total' : Tally} → Keeps new flushed → Counted total (moves_added answer) (cuts_added answer) total' → Passed P book old flushed total' (j + 1)
+    unfolding tally_to joined
+    onward flushed kept C =
         record {
           within = omega arith;
-          sized = same ∙ Q.sized;
+          shows = rw add-one (Appends-kept old new flushed _ (Appends-trans old now new _ _ Q.shows S.shows) kept);
           moves = C.moves ∙ rw (Q.moves, S.moves, sum_next);
           cuts = C.cuts ∙ rw (Q.cuts, S.cuts, sum_next);
         }
 
-    pub next_text : NextText P book j (take (r.end - 0) out'')
-    next_text =
-        let I = in_book book l in
-        let cut : r.end - 0 ≡ r.end = omega arith in
-        record { few = omega (arith, I.below, I.fits.sheets_fit); is = rw cut S.shows.made }
-
   -- after all of them
-  pub final_text : {out out' out'' : List ℕ} {total : Tally} {j r : ℕ} → Passed P book out out' total j → to_print book ≤ j → Shows (last_text book total.moves total.cuts) out'' r → FinalText P book j (take (r - 0) out'')
-  unfolding last_of
-  final_text {j = j} {r = r} Q l L =
+  whole : (old now new : Option (List ℕ)) {total : Tally} {j : ℕ} → Passed P book old now total j → to_print book ≤ j → Appends now new (last_text book total.moves total.cuts) → Appends old new (book_text P book)
+  unfolding last_of book_text
+  whole old now new {j = j} Q l L =
       let all : j ≡ to_print book = omega (arith, Q.within) in
-      let cut : r - 0 ≡ r = omega arith in
-      record { all = all; is = rw cut (rw (Q.moves, Q.cuts, all) at L.made) }
+      Appends-trans old now new _ _ (rw all at Q.shows) (rw (Q.moves, Q.cuts, all) at L)
+
+  -- whatever the last flush answers
+  pub end : (old now new flushed : Option (List ℕ)) {total : Tally} {j : ℕ} {T E : Type 0} (r : Result T E) → Passed P book old now total j → to_print book ≤ j → Appends now new (last_text book total.moves total.cuts) → Keeps new flushed → OnOk r (Appends old flushed (book_text P book))
+  end old now new flushed (Err e) Q l L kept = tt
+  end old now new flushed (Ok x) Q l L kept = Appends-kept old new flushed _ (whole old now new Q l L) kept
 
   joined_are : (texts : ℕ → List ℕ) → ((j : ℕ) → j < to_print book → texts j ≡ sheet_text P book j) → (k : ℕ) → k ≤ to_print book → joined texts k ≡ joined (sheet_text P book) k
   unfolding joined

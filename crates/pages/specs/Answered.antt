@@ -1,7 +1,9 @@
 -- What the share-out of a sheet answers, and leaves in lent lists of enough entries.
-use Rattle.std.specs.Prelude.{ℕ, ◌≤◌, List, ◌≡◌, length, take}
+use Rattle.std.specs.Prelude.{ℕ, ◌≤◌, List, Result, Ok, Err, ◌≡◌, length, take}
+use Rattle.model.specs.declared.Refusal.{Refusal}
 use Rattle.model.specs.declared.ShareOut.{ShareOut}
 use Rattle.model.specs.Sheet.{chores_of}
+use Rattle.model.specs.RefusalNumbers.{refusal_number}
 use Rattle.sheet.specs.Valid.{Valid}
 use Rattle.allocation.specs.Final.{final_of}
 use Rattle.pages.specs.Printer.{Printer}
@@ -26,6 +28,6 @@ pub record TurnedDown (P : Printer) (s : List ℕ) (k : ℕ) : Type 0 where
   pub number : k ≡ P.refusal s
   pub some : k ≡ 0 → ⊥
 
-pub record Answered (P : Printer) (s owners prices : List ℕ) (answer : ShareOut) : Type 0 where
-  pub turned_down : (k : ℕ) → answer ≡ ShareOut.Refused k → TurnedDown P s k
-  pub shared_out : (count cuts : ℕ) → answer ≡ ShareOut.Shared count cuts → Left P s count cuts owners prices
+pub record Answered (P : Printer) (s owners prices : List ℕ) (answer : Result ShareOut Refusal) : Type 0 where
+  pub turned_down : (refusal : Refusal) → answer ≡ Err refusal → TurnedDown P s (refusal_number refusal)
+  pub shared_out : (out : ShareOut) → answer ≡ Ok out → Left P s out.moves out.cuts owners prices

@@ -1,10 +1,11 @@
 -- What the programs print of a book, sheet by sheet. They differ in what an accepted sheet's lines are, and in which sheets they refuse.
-use Rattle.std.specs.Prelude.{ℕ, ◌+◌, cond, List, ◌≡◌, eqb}
+use Rattle.std.specs.Prelude.{ℕ, ◌+◌, cond, List, ◌++◌, ◌≡◌, eqb}
 use Rattle.finite.specs.Sums.{sum_to}
 use Rattle.model.specs.Contents.{sheet_count, sheet_of}
 use Rattle.model.specs.Algorithm.{State}
 use Rattle.model.specs.Refusals.{sheet_refusal, contents_refusal}
 use Rattle.allocation.specs.Final.{final_of}
+use Rattle.text.specs.Text.{joined}
 use Rattle.text.specs.Lines.{refused_line, book_refused_line, total_line}
 
 pub record Printer : Type 0 where
@@ -47,3 +48,7 @@ module _ (P : Printer) where
     -- what is printed after the sheets
     unfoldable pub last_of : List ℕ
     last_of = last_text book (tally_to (λ x. x.moves) (to_print book)) (tally_to (λ x. x.cuts) (to_print book))
+
+    -- all that is printed
+    unfoldable pub book_text : List ℕ
+    book_text = joined sheet_text (to_print book) ++ last_of

@@ -1,1 +1,3 @@
 pub mod Arguments
+pub mod Input
+pub mod Buffered

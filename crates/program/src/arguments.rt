@@ -18,16 +18,11 @@ enum Asked {
 fn asked_by(word: &[u8]) -> Asked
     ensures { Asks word.now result }
 {
-    if word == b"--help".as_slice() {
-        return Asked::Help;
+    match word {
+        b"--help" | b"-h" => Asked::Help,
+        b"--version" => Asked::Version,
+        _ => Asked::Unknown,
     }
-    if word == b"-h".as_slice() {
-        return Asked::Help;
-    }
-    if word == b"--version".as_slice() {
-        return Asked::Version;
-    }
-    Asked::Unknown
 }
 
 // Argument 0 is the program's own name.
@@ -42,35 +37,28 @@ fn what_is_asked(rt: &impl Env) -> Asked {
     match rt.arg(1, &mut word) {
         Err(FillError::NotPresent) => Asked::Run,
         Err(FillError::TooLong) => Asked::Unknown,
-        Ok(n) => {
-            if has_second(rt) {
-                return Asked::Unknown;
-            }
-            asked_by(&word[..n])
-        }
+        Ok(_) if has_second(rt) => Asked::Unknown,
+        Ok(n) => asked_by(&word[..n]),
     }
 }
 
-// Whether the program is to do its own work. What else is asked for is printed; where that fails, `failure` is said.
+// Whether the program is to do its own work. What else is asked for is printed.
 pub fn to_run<W: Write, E: Write>(
     rt: &impl Env,
-    out: &mut W,
-    errors: &mut E,
+    name: &str,
     usage: &[u8],
     version: &[u8],
-    failure: &[u8],
+    out: &mut W,
+    errors: &mut E,
 ) -> bool {
-    match what_is_asked(rt) {
+    let printed = match what_is_asked(rt) {
         Asked::Run => return true,
-        Asked::Help => {
-            output::put(out, errors, usage, failure);
-        }
-        Asked::Version => {
-            output::put(out, errors, version, failure);
-        }
-        Asked::Unknown => {
-            output::put_error(errors, usage, failure);
-        }
+        Asked::Help => output::put(usage, out),
+        Asked::Version => output::put(version, out),
+        Asked::Unknown => output::put(usage, errors),
+    };
+    if let Err(error) = printed {
+        output::fail(name, "write error", &error, errors);
     }
     false
 }

@@ -1,11 +1,14 @@
 -- What `shares` prints: the text of a sheet from what its share-out left, and the text of a book from those of its sheets.
 -- Assumes nothing.
-use Prim.Native.Nat.{ℕ, ◌-◌, ◌≤◌, ◌<◌}
+use Prim.Native.Nat.{ℕ, ◌<◌}
 use mathlib.Core.List.{List, ◌++◌}
-use mathlib.Core.Path.{◌≡◌}
+use mathlib.Core.Path.{◌≡◌, refl, ◌∙◌}
 use native.Mathlib.Omega.{arith}
 use lib.ListN.{length, take}
 use borrow.Author.Tests.{eqb-true}
+use Rattle.std.specs.Prelude.{Option, Result}
+use Rattle.std.specs.Io.KnownBytes.{Appends}
+use Rattle.model.specs.declared.Refusal.{Refusal}
 use Rattle.model.specs.declared.ShareOut.{ShareOut}
 use Rattle.model.specs.Limits.{max_chores, scratch_size}
 use Rattle.model.specs.Sheet.{chores_of}
@@ -17,39 +20,29 @@ use Rattle.allocation.specs.Final.{final_of}
 use Rattle.allocation.proofs.Accepting.{sheet_decides}
 use Rattle.allocation.proofs.Final.{final_demand3}
 use Rattle.text.specs.Text.{joined}
-use Rattle.text.specs.Put.{Put}
+use Rattle.pages.specs.Printer as pages
 use Rattle.pages.specs.Printer.{to_print, text_of, adds_of, sheet_text, tally_to, last_of}
 use Rattle.pages.specs.Answered.{Left, Answered}
 use Rattle.pages.proofs.Answering as answering
 use Rattle.pages.proofs.Printing as printing
 use Rattle.shares.specs.Page as page
 use Rattle.shares.specs.Page.{shared_lines, sheets_text, book_text, Printed}
-use Rattle.shares.specs.Printing.{printer, text_most, text_room, Wide}
+use Rattle.shares.specs.Printing.{printer, unbroken}
 
 -- what `allocate` promises, where lists of enough entries are lent
-pub answered : {s owners prices scratch owners' prices' scratch' : List ℕ} {r : ShareOut} → max_chores ≡ length owners → max_chores ≡ length prices → scratch_size ≡ length scratch → length owners' ≡ length owners → length prices' ≡ length prices → Allocated s owners prices scratch owners' prices' scratch' r → Answered printer s owners' prices' r
+pub answered : {s owners prices scratch owners' prices' scratch' : List ℕ} {r : Result ShareOut Refusal} → max_chores ≡ length owners → max_chores ≡ length prices → scratch_size ≡ length scratch → length owners' ≡ length owners → length prices' ≡ length prices → Allocated s owners prices scratch owners' prices' scratch' r → Answered printer s owners' prices' r
 answered {s} {owners} {prices} {scratch} o p c o' p' A =
     let is = sheet_decides s (length owners) (length prices) (length scratch) (omega arith) (omega arith) (omega arith) in
-    answering.answered printer (λ s z. z) is A.not_refused A.turned_down (omega arith) (omega arith)
+    answering.answered printer unbroken is A.not_refused A.turned_down (omega arith) (omega arith)
 
 -- the entries of an accepted sheet are cut out of the lists
-module _ {s owners prices : List ℕ} {count cuts m : ℕ} (L : Left printer s count cuts owners prices) (e : m ≡ chores_of s) where
-  pub left_wide : {out : List ℕ} → text_room ≤ length out → Wide (take (m - 0) owners) (take (m - 0) prices) out
-  left_wide room =
-      let cut : m - 0 ≡ chores_of s = omega arith in
-      record {
-        owners_few = rw cut (answering.owners_few_lem L.ran);
-        prices_few = rw cut (answering.prices_few_lem L.ran);
-        room = room;
-      }
-
-  pub left_text : {r : ℕ} {out out' : List ℕ} (number : ℕ) → Put text_most (shared_lines number count cuts (take (m - 0) owners) (take (m - 0) prices)) out 0 out' r → Put text_most (text_of printer s number) out 0 out' r
-  left_text number T =
+module _ {s owners prices : List ℕ} {out : ShareOut} {m : ℕ} (L : Left printer s out.moves out.cuts owners prices) (e : m ≡ chores_of s) where
+  pub left_text : (number : ℕ) → text_of printer s number ≡ shared_lines number out.moves out.cuts (take m owners) (take m prices)
+  left_text number =
       let R = L.ran in
-      let cut : m - 0 ≡ chores_of s = omega arith in
-      answering.accepted_text printer number L.accepted (rw (cut, R.count_is, R.cuts_are, R.owners_are, R.prices_are) at T)
+      answering.accepted_text printer s number L.accepted ∙ rw (e, R.count_is, R.cuts_are, R.owners_are, R.prices_are)
 
--- Texts that are as `put_sheet` asks for each sheet, and a last one that is as `put_last` asks, make the text of the book.
+-- The texts of the sheets and then the last one are the text of the book.
 pub whole_text : (book : List ℕ) (texts : ℕ → List ℕ) (last : List ℕ) → ((j : ℕ) → j < to_print book → texts j ≡ sheet_text printer book j) → last ≡ last_of printer book → Printed book (joined texts (to_print book) ++ last)
 unfolding text_of adds_of sheet_text tally_to page.sheet_text sheets_text book_text own_refusal takes_sheet over_accepted tally_of
 whole_text book texts last e q =
@@ -62,3 +55,8 @@ whole_text book texts last e q =
           };
       turned_down = printing.refused_text printer book texts last e q;
     }
+
+-- so what is printed of a book is its text
+pub sent : (book : List ℕ) (old new : Option (List ℕ)) → Appends old new (pages.book_text printer book) → (text : List ℕ) × Printed book text × Appends old new text
+unfolding pages.book_text
+sent book old new S = (_, whole_text book (sheet_text printer book) (last_of printer book) (λ j l. refl) refl, S)

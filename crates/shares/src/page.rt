@@ -1,73 +1,71 @@
 // The text of a sheet of a book.
-ghost use Rattle.std.specs.Prelude.{◌≤◌, length};
-ghost use Rattle.contents.specs.Fits.{SheetInBook};
-ghost use Rattle.text.specs.Put.{Put};
+ghost use Rattle.std.specs.Prelude.{OnOk};
+ghost use Rattle.std.specs.Io.KnownBytes.{Appends};
 ghost use Rattle.pages.specs.Printer.{text_of};
-ghost use Rattle.pages.specs.Printing.{SheetShown};
 ghost use Rattle.pages.specs.Answered.{Answered};
 ghost use Rattle.shares.specs.Page.{shared_lines};
-ghost use Rattle.shares.specs.Printing.{text_most, text_room, Wide, printer};
+ghost use Rattle.shares.specs.Printing.{printer, unbroken};
 
-use pages::SheetText;
+use model::{Refusal, ShareOut};
+use pages::SheetPrinter;
+use std::io;
+use std::io::Write;
 use text::lines;
 
 // The three lines of an accepted sheet.
-fn shared_lines(
+fn shared_lines<W: Write>(
     number: u64,
-    moves: u64,
-    cuts: u64,
+    out: ShareOut,
     owners: &[u8],
     prices: &[u32],
-    out: &mut [u8],
-) -> usize
-    requires { Wide owners.now prices.now out.old }
-    ensures { Put text_most (shared_lines number moves cuts owners.now prices.now) out.old 0 out.new result }
+    to: &mut W,
+) -> io::Result<()>
+    ensures { OnOk result (Appends (W.contents to.old) (W.contents to.new) (shared_lines number out.moves out.cuts owners.now prices.now)) }
 {
-    let a = lines::sheet_line(number, moves, cuts, out, 0);
-    let b = lines::owners_line(owners, out, a);
-    lines::prices_line(prices, out, b)
+    lines::sheet_line(number, out.moves, out.cuts as u64, to)?;
+    lines::owners_line(owners, to)?;
+    lines::prices_line(prices, to)
 }
 
 // An accepted sheet's entries stand first in the lists.
-fn answer_text(
+fn answer_text<W: Write>(
     sheet: &[u8],
     number: u64,
-    answer: model::ShareOut,
+    answer: Result<ShareOut, Refusal>,
     owners: &[u8],
     prices: &[u32],
-    out: &mut [u8],
-) -> usize
-    requires answered { Answered printer sheet.now owners.now prices.now answer }
-    requires text_room_in_bounds { text_room ≤ length out.old }
-    ensures { Put text_most (text_of printer sheet.now number) out.old 0 out.new result }
+    to: &mut W,
+) -> io::Result<()>
+    requires { Answered printer sheet.now owners.now prices.now answer }
+    ensures { OnOk result (Appends (W.contents to.old) (W.contents to.new) (text_of printer sheet.now number)) }
 {
     match answer {
-        model::ShareOut::Refused(refusal) => lines::refused_line(number, refusal as u64, out, 0),
-        model::ShareOut::Shared { moves, cuts } => {
+        Ok(out) => {
             let m = sheet::chores(sheet);
-            shared_lines(
-                number,
-                moves,
-                cuts as u64,
-                &owners[0..m],
-                &prices[0..m],
-                out,
-            )
+            shared_lines(number, out, &owners[..m], &prices[..m], to)
         }
+        Err(refusal) => lines::refused_line(number, refusal, to),
     }
 }
 
-// Sheet j, counted from 0 and numbered from 1.
-pub fn sheet_text(book: &[u8], j: usize, out: &mut [u8]) -> SheetText
-    requires sheet_in_book { SheetInBook book.now j }
-    requires text_room_in_bounds { text_room ≤ length out.old }
-    ensures { SheetShown printer book.now j out.new result }
-{
-    let sheet = contents::sheet_at(book, j);
-    let mut owners = totals::no_owners();
-    let mut prices = totals::no_prices();
-    let mut scratch = totals::no_scratch();
-    let answer = allocation::allocate(sheet, &mut owners, &mut prices, &mut scratch);
-    let end = answer_text(sheet, j as u64 + 1, answer, &owners, &prices, out);
-    SheetText { end, answer }
+pub struct Shares;
+
+impl SheetPrinter for Shares {
+    ghost printer = { printer };
+
+    fn sheet_text<W: Write>(
+        book: &[u8],
+        j: usize,
+        to: &mut W,
+    ) -> io::Result<Result<ShareOut, Refusal>> {
+        let sheet = contents::sheet_at(book, j);
+        let mut owners = [0; model::MAX_CHORES];
+        let mut prices = [0; model::MAX_CHORES];
+        let mut scratch = [0; model::SCRATCH_SIZE];
+        let answer = allocation::allocate(sheet, &mut owners, &mut prices, &mut scratch);
+        answer_text(sheet, j as u64 + 1, answer, &owners, &prices, to)?;
+        Ok(answer)
+    }
+
+    ghost unbroken = { unbroken };
 }

@@ -1,4 +1,4 @@
 pub mod Decimal
-pub mod Putting
+pub mod Sending
 pub mod Moving
 pub mod Sample

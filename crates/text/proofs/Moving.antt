@@ -1,62 +1,56 @@
 -- The lines read off a record's bytes are those of its moves.
 -- Assumes nothing.
-use Prim.Native.Nat.{ℕ, zero, suc, ◌+◌, ◌*◌, ◌/◌, ◌%◌, ◌≤◌, ◌<◌}
+use Prim.Native.Nat.{ℕ, ◌+◌, ◌*◌, ◌/◌, ◌%◌, ◌^◌, ◌<◌}
 use mathlib.Core.List.{List, [], ◌∷◌, ◌++◌, append_assoc, append-nil}
-use mathlib.Core.Path.{◌≡◌, refl, sym, ap, ap₂, ◌∙◌}
-use native.Mathlib.Numerals.{add-one}
+use mathlib.Core.Path.{◌≡◌, refl, ap, ap₂}
 use native.Mathlib.Omega.{arith}
-use lib.ListN.{length}
+use native.Mathlib.Numerals.{add-one}
+use lib.ListN.{length, get_or, take}
+use lib.Seq.{take-suc}
+use Rattle.std.specs.Fmt as std
+use Rattle.std.specs.List.{flat_map}
+use Rattle.std.specs.Simd.{first_chunks}
+use Rattle.std.proofs.lemmas.Grind.{flat_map-append}
 use Rattle.finite.specs.Lists.{word_at}
 use Rattle.model.specs.Record.{Move, move_size, move_bytes, record_of}
-use Rattle.model.proofs.Record.{six_after}
 use Rattle.records.proofs.Bytes.{record_length}
-use Rattle.text.specs.Text.{joined}
-use Rattle.text.specs.Put.{Put}
-use Rattle.text.specs.Moves.{numbers_line, move_line, move_lines, move_most, line_at, lines_to, Moved, PutMoves}
-use Rattle.text.proofs.Putting.{put_nothing, put_then, put_more}
+use Rattle.text.specs.Text.{ascii, field, newline}
+use Rattle.text.specs.Moves.{numbers_line, move_line, move_lines, line_at}
+use Rattle.text.proofs.Decimal.{decimal_is}
 
-module _ (t : Move) (rest : List ℕ) where
-  -- the first move of a record
-  line_first : line_at (move_bytes t ++ rest) 0 ≡ move_line t
-  unfolding line_at word_at move_bytes move_line
-  line_first =
-      let whole : 256 * ((t.chore + 1) / 256) + (t.chore + 1) % 256 ≡ t.chore + 1 = omega arith in
-      ap (λ n. numbers_line n (t.giver + 1) (t.receiver + 1) t.round t.step) whole
+five_fields : (a b d e f : List ℕ) (c g r o s : ℕ) → c < 2 ^ 64 → g < 2 ^ 64 → r < 2 ^ 64 → o < 2 ^ 64 → s < 2 ^ 64 → field a c ++ field b g ++ field d r ++ field e o ++ field f s ++ newline ≡ a ++ (std.decimal c ++ (b ++ (std.decimal g ++ (d ++ (std.decimal r ++ (e ++ (std.decimal o ++ (f ++ (std.decimal s ++ newline)))))))))
+unfolding field
+five_fields a b d e f c g r o s i j k l m = rw (decimal_is c i, decimal_is g j, decimal_is r k, decimal_is o l, decimal_is s m) (simp append_assoc)
 
-  line_after : (k : ℕ) → line_at (move_bytes t ++ rest) (suc k) ≡ line_at rest k
-  unfolding line_at word_at
-  line_after k = six_after (λ h l g r o s. numbers_line (256 * h + l) g r o s) t rest k
+-- what the standard library writes of the numbers in six bytes
+module _ (six : List ℕ) (fits : (i : ℕ) → get_or six i 0 < 256) where
+  pub line_shown : (chore : ℕ) → chore ≡ get_or six 0 0 * 256 + get_or six 1 0 → line_at six 0 ≡ ascii "reel " ++ (std.decimal chore ++ (ascii " from " ++ (std.decimal (get_or six 2 0) ++ (ascii " to " ++ (std.decimal (get_or six 3 0) ++ (ascii " round " ++ (std.decimal (get_or six 4 0) ++ (ascii " step " ++ (std.decimal (get_or six 5 0) ++ newline)))))))))
+  unfolding numbers_line line_at word_at
+  line_shown chore e =
+      let is : 256 * get_or six 0 0 + get_or six 1 0 ≡ chore = omega arith in
+      let low : (i : ℕ) → get_or six i 0 < 2 ^ 64 = λ i. omega (arith, fits i) in
+      rw is (five_fields (ascii "reel ") (ascii " from ") (ascii " to ") (ascii " round ") (ascii " step ") chore _ _ _ _ (omega (arith, fits 0, fits 1)) (low 2) (low 3) (low 4) (low 5))
 
-  lines_after : (k : ℕ) → lines_to (move_bytes t ++ rest) (suc k) ≡ move_line t ++ lines_to rest k
-  unfolding joined
-  lines_after zero = line_first ∙ sym (append-nil _)
-  lines_after (suc k) = ap₂ ◌++◌ (lines_after k) (line_after k) ∙ append_assoc (move_line t) (lines_to rest k) (line_at rest k)
+-- the line of one move's six bytes
+line_is : (t : Move) → line_at (move_bytes t) 0 ≡ move_line t
+unfolding line_at word_at move_bytes move_line
+line_is t =
+    let whole : 256 * ((t.chore + 1) / 256) + (t.chore + 1) % 256 ≡ t.chore + 1 = omega arith in
+    ap (λ n. numbers_line n (t.giver + 1) (t.receiver + 1) t.round t.step) whole
 
-lines_are : (ts : List Move) → lines_to (record_of ts) (length ts) ≡ move_lines ts
-unfolding joined record_of move_lines
+abbrev pub lines_of : List (List ℕ) → List ℕ
+lines_of = flat_map (λ six. line_at six 0)
+
+lines_are : (ts : List Move) → lines_of (first_chunks move_size (length ts) (record_of ts)) ≡ move_lines ts
+unfolding record_of move_bytes move_lines
 lines_are [] = refl
-lines_are (t ∷ ts) = lines_after t (record_of ts) (length ts) ∙ ap (λ l. move_line t ++ l) (lines_are ts)
+lines_are (t ∷ ts) = ap₂ ◌++◌ (line_is t) (lines_are ts)
 
--- from one line to the next
-module _ (bytes : List ℕ) {out : List ℕ} {at : ℕ} where
-  pub moves_begin : Moved bytes out at out at 0
-  unfolding joined
-  moves_begin = record { within = omega arith; sized = refl; put = put_more put_nothing (omega arith) }
+-- one move more
+pub lines_next : (xs : List (List ℕ)) (i : ℕ) → i < length xs → lines_of (take (i + 1) xs) ≡ lines_of (take i xs) ++ line_at (get_or xs i []) 0
+lines_next xs i l = rw (add-one, take-suc xs i [] l, flat_map-append) (ap (λ x. lines_of (take i xs) ++ x) (append-nil _))
 
-  module _ {out' : List ℕ} {end k : ℕ} (P : Moved bytes out at out' end k) where
-    pub moves_next : {out'' : List ℕ} {r : ℕ} → k < length bytes / move_size → Put move_most (line_at bytes k) out' end out'' r → length out'' ≡ length out' → Moved bytes out at out'' r (k + 1)
-    unfolding joined
-    moves_next l Q same =
-        let both = put_then P.put Q in
-        let more = ap (lines_to bytes) (add-one k) in
-        record { within = omega arith; sized = same ∙ P.sized; put = rw more (put_more both (omega arith)) }
-
-    pub moves_end : length bytes / move_size ≤ k → PutMoves bytes out at out' end
-    moves_end l =
-        record {
-          few = omega (arith, P.within, P.put.few);
-          put = λ moves e.
-              let all : k ≡ length moves = omega (arith, P.within, ap length e, record_length moves) in
-              let lines : lines_to bytes k ≡ move_lines moves = ap₂ lines_to e all ∙ lines_are moves in
-              record { few = rw all at P.put.few; made = rw lines at P.put.made };
-        }
+pub record_lines : (bytes : List ℕ) (ts : List Move) → bytes ≡ record_of ts → lines_of (first_chunks move_size (length bytes / move_size) bytes) ≡ move_lines ts
+record_lines bytes ts e =
+    let count : length bytes / move_size ≡ length ts = omega (arith, ap length e, record_length ts) in
+    rw (count, e) (lines_are ts)

@@ -1,4 +1,3 @@
 pub mod Text
-pub mod Put
 pub mod Lines
 pub mod Moves

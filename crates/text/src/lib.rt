@@ -1,6 +1,5 @@
-// The text of the programs, in a lent buffer: words and numbers, and the lines made of them.
+// The text of the programs: the lines that they print, each to a writer that is handed in.
 #![tactic(auto)]
 
 pub mod lines;
 pub mod moves;
-pub mod words;

@@ -1,75 +1,66 @@
-// The lines that the programs print, each added to a lent buffer. A number in a contract is the most that the line takes.
-ghost use Rattle.std.specs.Prelude.{◌+◌, ◌*◌, ◌≤◌, length};
-ghost use Rattle.text.specs.Lines.{sheet_line, list_line, owners_line, prices_line, opening_line, refused_line, book_refused_line, total_line};
-ghost use Rattle.text.specs.Put.{Put};
+// The lines that the programs print. What a contract says holds of a writer whose bytes are known.
+ghost use Rattle.std.specs.Prelude.{OnOk, IfSome};
+ghost use Rattle.std.specs.Io.KnownBytes.{Appends};
+ghost use Rattle.model.specs.RefusalNumbers.{refusal_number};
+ghost use Rattle.text.specs.Text.{listed};
+ghost use Rattle.text.specs.Lines.{sheet_line, owners_line, prices_line, opening_line, refused_line, book_refused_line, total_line};
 
-use crate::words;
+use model::Refusal;
+use std::fmt::Display;
+use std::io;
+use std::io::Write;
 
-pub fn sheet_line(number: u64, moves: u64, cuts: u64, out: &mut [u8], at: usize) -> usize
-    requires { at + 80 ≤ length out.old }
-    ensures { Put 80 (sheet_line number moves cuts) out.old at out.new result }
+pub fn sheet_line<W: Write>(number: u64, moves: u64, cuts: u64, to: &mut W) -> io::Result<()>
+    ensures { OnOk result (Appends (W.contents to.old) (W.contents to.new) (sheet_line number moves cuts)) }
 {
-    let a = words::field(b"sheet ", number, out, at);
-    let b = words::field(b" moves ", moves, out, a);
-    let c = words::field(b" cuts ", cuts, out, b);
-    words::end_line(out, c)
+    writeln!(to, "sheet {number} moves {moves} cuts {cuts}")
 }
 
-// A word, and an agent's number for each chore.
-fn agents_line(word: &[u8], agents: &[u8], out: &mut [u8], at: usize) -> usize
-    requires { at + length word.now + 4 * length agents.now + 21 ≤ length out.old }
-    ensures { Put (length word.now + 4 * length agents.now + 1) (list_line word.now agents.now) out.old at out.new result }
+// A word, and a number for each chore, each after a space.
+fn list_line<W: Write, T: Display>(word: &str, numbers: &[T], to: &mut W) -> io::Result<()>
+    ensures { OnOk result (IfSome (listed T.output word.now numbers.now) (Appends (W.contents to.old) (W.contents to.new))) }
 {
-    let a = words::word(word, out, at);
-    let b = words::spaced_u8(agents, out, a);
-    words::end_line(out, b)
+    write!(to, "{word}")?;
+    for number in numbers {
+        write!(to, " {number}")?;
+    }
+    writeln!(to)
 }
 
-pub fn owners_line(owners: &[u8], out: &mut [u8], at: usize) -> usize
-    requires { at + 4 * length owners.now + 27 ≤ length out.old }
-    ensures { Put (4 * length owners.now + 7) (owners_line owners.now) out.old at out.new result }
+pub fn owners_line<W: Write>(owners: &[u8], to: &mut W) -> io::Result<()>
+    ensures { OnOk result (Appends (W.contents to.old) (W.contents to.new) (owners_line owners.now)) }
 {
-    agents_line(b"owners", owners, out, at)
+    list_line("owners", owners, to)
 }
 
-pub fn opening_line(owners: &[u8], out: &mut [u8], at: usize) -> usize
-    requires { at + 4 * length owners.now + 28 ≤ length out.old }
-    ensures { Put (4 * length owners.now + 8) (opening_line owners.now) out.old at out.new result }
+pub fn opening_line<W: Write>(owners: &[u8], to: &mut W) -> io::Result<()>
+    ensures { OnOk result (Appends (W.contents to.old) (W.contents to.new) (opening_line owners.now)) }
 {
-    agents_line(b"opening", owners, out, at)
+    list_line("opening", owners, to)
 }
 
-pub fn prices_line(prices: &[u32], out: &mut [u8], at: usize) -> usize
-    requires { at + 11 * length prices.now + 27 ≤ length out.old }
-    ensures { Put (11 * length prices.now + 7) (prices_line prices.now) out.old at out.new result }
+pub fn prices_line<W: Write>(prices: &[u32], to: &mut W) -> io::Result<()>
+    ensures { OnOk result (Appends (W.contents to.old) (W.contents to.new) (prices_line prices.now)) }
 {
-    let a = words::word(b"prices", out, at);
-    let b = words::spaced_u32(prices, out, a);
-    words::end_line(out, b)
+    list_line("prices", prices, to)
 }
 
-pub fn refused_line(number: u64, refusal: u64, out: &mut [u8], at: usize) -> usize
-    requires { at + 56 ≤ length out.old }
-    ensures { Put 56 (refused_line number refusal) out.old at out.new result }
+pub fn refused_line<W: Write>(number: u64, refusal: Refusal, to: &mut W) -> io::Result<()>
+    ensures { OnOk result (Appends (W.contents to.old) (W.contents to.new) (refused_line number (refusal_number refusal))) }
 {
-    let a = words::field(b"sheet ", number, out, at);
-    let b = words::field(b" refused ", refusal, out, a);
-    words::end_line(out, b)
+    let refusal = u8::from(refusal);
+    writeln!(to, "sheet {number} refused {refusal}")
 }
 
-pub fn book_refused_line(refusal: u64, out: &mut [u8], at: usize) -> usize
-    requires { at + 34 ≤ length out.old }
-    ensures { Put 34 (book_refused_line refusal) out.old at out.new result }
+pub fn book_refused_line<W: Write>(refusal: Refusal, to: &mut W) -> io::Result<()>
+    ensures { OnOk result (Appends (W.contents to.old) (W.contents to.new) (book_refused_line (refusal_number refusal))) }
 {
-    let a = words::field(b"book refused ", refusal, out, at);
-    words::end_line(out, a)
+    let refusal = u8::from(refusal);
+    writeln!(to, "book refused {refusal}")
 }
 
-pub fn total_line(moves: u64, cuts: u64, out: &mut [u8], at: usize) -> usize
-    requires { at + 59 ≤ length out.old }
-    ensures { Put 59 (total_line moves cuts) out.old at out.new result }
+pub fn total_line<W: Write>(moves: u64, cuts: u64, to: &mut W) -> io::Result<()>
+    ensures { OnOk result (Appends (W.contents to.old) (W.contents to.new) (total_line moves cuts)) }
 {
-    let a = words::field(b"total moves ", moves, out, at);
-    let b = words::field(b" cuts ", cuts, out, a);
-    words::end_line(out, b)
+    writeln!(to, "total moves {moves} cuts {cuts}")
 }

@@ -6,31 +6,27 @@ use mathlib.Core.Path.{◌≡◌, sym, ap, ◌∙◌}
 use native.Mathlib.Omega.{arith}
 use lib.ListN.{length, take}
 use Rattle.finite.proofs.Below.{by_same}
+use Rattle.std.specs.Prelude.{Result}
+use Rattle.model.specs.declared.Refusal.{Refusal}
 use Rattle.model.specs.declared.ShareOut.{ShareOut}
 use Rattle.model.specs.Limits.{max_chores, scratch_size}
 use Rattle.model.specs.Record.{move_size, record_of}
 use Rattle.model.specs.Refusals.{◌or_else◌, sheet_refusal, record_refusal, recorded_refusal}
 use Rattle.model.specs.Promises.{Recorded}
-use Rattle.sheet.proofs.OrElse.{or_else_zero, or_else_first}
+use Rattle.sheet.proofs.OrElse.{or_else_first}
 use Rattle.sheet.proofs.Refusal.{recorded_taken}
 use Rattle.allocation.specs.Final.{final_of}
 use Rattle.allocation.proofs.Accepting.{sheet_decides}
 use Rattle.allocation.proofs.Final.{final_demand3}
 use Rattle.algorithm.proofs.RunMoves.{moves_are_lem}
 use Rattle.recorded.specs.Moves.{moves_for}
-use Rattle.pages.specs.Printer.{Unbroken}
 use Rattle.pages.specs.Answered.{Answered}
 use Rattle.pages.proofs.Answering as answering
 use Rattle.why.specs.Page.{record_size, run_refusal}
-use Rattle.why.specs.Told.{printer, refusal_of, Noted}
-
--- an accepted sheet breaks no rule
-pub unbroken : Unbroken printer
-unfolding run_refusal
-unbroken s z = (or_else_zero (sheet_refusal s) (record_refusal (length (moves_for s)) record_size) z).0
+use Rattle.why.specs.Told.{printer, unbroken, refusal_of, Noted}
 
 -- what is lent, and what comes back
-module _ {s owners prices scratch bytes owners' prices' scratch' bytes' : List ℕ} {r : ShareOut} (o : max_chores ≡ length owners) (p : max_chores ≡ length prices) (c : scratch_size ≡ length scratch) (b : record_size ≡ length bytes) (R : Recorded s owners prices scratch bytes owners' prices' scratch' bytes' r) where
+module _ {s owners prices scratch bytes owners' prices' scratch' bytes' : List ℕ} {r : Result ShareOut Refusal} (o : max_chores ≡ length owners) (p : max_chores ≡ length prices) (c : scratch_size ≡ length scratch) (b : record_size ≡ length bytes) (R : Recorded s owners prices scratch bytes owners' prices' scratch' bytes' r) where
   -- whatever moves the promise speaks of, they are those of the run
   moves_same : sheet_refusal s ≡ 0 → R.moves ≡ moves_for s
   unfolding moves_for

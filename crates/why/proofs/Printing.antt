@@ -2,7 +2,9 @@
 -- Assumes nothing.
 use Prim.Native.Nat.{ℕ, ◌<◌}
 use mathlib.Core.List.{List, ◌++◌}
-use mathlib.Core.Path.{◌≡◌}
+use mathlib.Core.Path.{◌≡◌, refl}
+use Rattle.std.specs.Prelude.{Option}
+use Rattle.std.specs.Io.KnownBytes.{Appends}
 use Rattle.model.specs.Contents.{sheet_of}
 use Rattle.model.specs.Algorithm.{State}
 use Rattle.model.specs.Record.{Move}
@@ -11,6 +13,7 @@ use Rattle.allocation.specs.Final.{final_of}
 use Rattle.allocation.proofs.Final.{final_demand3}
 use Rattle.recorded.specs.Moves.{moves_for}
 use Rattle.text.specs.Text.{joined}
+use Rattle.pages.specs.Printer as pages
 use Rattle.pages.specs.Printer.{to_print, text_of, adds_of, sheet_text, tally_to, last_of}
 use Rattle.pages.proofs.Printing as printing
 use Rattle.why.specs.Page as page
@@ -29,7 +32,7 @@ module _ (book : List ℕ) where
   unfolding moves_for
   runs_of = record { demand3 = λ j l z. final_demand3 (sheet_of book j) z; runs = λ j l z. run_of (sheet_of book j) z }
 
-  -- Texts that are as `put_sheet` asks for each sheet, and a last one that is as `put_last` asks, make the text of the book.
+  -- The texts of the sheets and then the last one are the text of the book.
   pub whole_text : (texts : ℕ → List ℕ) (last : List ℕ) → ((j : ℕ) → j < to_print book → texts j ≡ sheet_text printer book j) → last ≡ last_of printer book → Printed book (joined texts (to_print book) ++ last)
   unfolding text_of adds_of sheet_text tally_to run_text adds page.sheet_text page.tally_to last_line book_text
   whole_text texts last e q =
@@ -37,3 +40,8 @@ module _ (book : List ℕ) where
         not_refused = λ z. record { finals = finals; moves = moves; runs = runs_of; shows = printing.whole_text printer book texts last e q z };
         turned_down = printing.refused_text printer book texts last e q;
       }
+
+  -- so what is printed of a book is its text
+  pub sent : (old new : Option (List ℕ)) → Appends old new (pages.book_text printer book) → (text : List ℕ) × Printed book text × Appends old new text
+  unfolding pages.book_text
+  sent old new S = (_, whole_text (sheet_text printer book) (last_of printer book) (λ j l. refl) refl, S)

@@ -1,67 +1,57 @@
 -- The text of one sheet, from what its share-out left.
 -- Assumes nothing.
-use Prim.Native.Nat.{ℕ, ◌-◌, ◌*◌, ◌≤◌}
+use Prim.Native.Nat.{ℕ, ◌*◌, ◌≤◌}
 use mathlib.Core.List.{List}
-use mathlib.Core.Path.{◌≡◌, refl, sym, ◌∙◌}
+use mathlib.Core.Path.{◌≡◌, sym, ◌∙◌}
 use native.Mathlib.Omega.{arith}
-use lib.ListN.{length, take, replicate}
+use lib.ListN.{take, replicate}
 use lib.Seq.{length-take-le}
-use Rattle.finite.proofs.Lists.{first_of, first_sized_lem}
+use Rattle.std.specs.Prelude.{Option, Result, Ok, Err, OnOk}
+use Rattle.std.specs.Io.KnownBytes.{Appends}
+use Rattle.std.proofs.KnownBytes.{Appends-trans}
+use Rattle.std.proofs.lemmas.List.{take-replicate, length-replicate}
+use Rattle.model.specs.declared.ShareOut.{ShareOut}
 use Rattle.model.specs.Limits.{max_chores}
 use Rattle.model.specs.Sheet.{agents_of, chores_of, as_read}
 use Rattle.model.specs.Algorithm.{opening}
-use Rattle.model.specs.Record.{move_size}
+use Rattle.model.specs.Record.{Move, move_size, record_of}
 use Rattle.opening.specs.Opened.{OpenInto}
 use Rattle.recorded.specs.Moves.{moves_for}
 use Rattle.allocation.specs.Final.{final_of}
-use Rattle.text.specs.Put.{Put}
+use Rattle.text.specs.Lines.{sheet_line, opening_line, owners_line, prices_line}
+use Rattle.text.specs.Moves.{move_lines}
 use Rattle.pages.specs.Printer.{text_of}
 use Rattle.pages.specs.Answered.{Left}
-use Rattle.pages.proofs.Answering.{owners_few_lem, prices_few_lem, accepted_text}
-use Rattle.why.specs.Told.{printer, text_most, text_room, Wide, PutRun, Openable, Opening, Noted}
+use Rattle.pages.proofs.Answering.{accepted_text}
+use Rattle.why.specs.Page.{run_lines}
+use Rattle.why.specs.Told.{printer, Openable, Noted}
 
 -- lists of an entry for each chore, cut from longer ones
-pub opening_into : {s owners : List ℕ} {n m : ℕ} (prices likes : List ℕ) → Openable s owners → n ≡ agents_of s → m ≡ chores_of s → max_chores ≡ length prices → likes ≡ replicate max_chores 0 → OpenInto s n m owners (take (m - 0) prices) (take (m - 0) likes)
-opening_into {m = m} prices likes O a b p l =
+pub opening_into : {s owners : List ℕ} {n m : ℕ} → Openable s owners → n ≡ agents_of s → m ≡ chores_of s → OpenInto s n m owners (take m (replicate max_chores 0)) (take m (replicate max_chores 0))
+opening_into {m = m} O a b =
     let few : m ≤ max_chores = omega (arith, O.valid.chores_fit) in
     record {
       on = record { valid = O.valid; agents = a; chores = b };
       owners_sized = O.sized ∙ sym b;
-      prices_sized = first_sized_lem prices (sym p) refl few;
-      no_likes = first_of l refl few;
+      prices_sized = length-take-le m (replicate max_chores 0) (omega (arith, length-replicate {A = ℕ} max_chores 0));
+      no_likes = take-replicate m max_chores 0 few;
     }
 
-module _ {s owners prices bytes opened : List ℕ} {count cuts : ℕ} (O : Opening s count cuts owners prices bytes opened) where
-  pub opening_wide : {opened' out : List ℕ} → length opened' ≡ length opened → text_room ≤ length out → Wide opened' bytes owners prices out
-  opening_wide same room =
-      record {
-        opened_few = omega (arith, O.opened_sized, O.ran.valid.chores_fit);
-        bytes_few = O.bytes_few;
-        owners_few = owners_few_lem O.ran;
-        prices_few = prices_few_lem O.ran;
-        room = room;
-      }
+-- the lines of a run, one after the other
+pub run_sent : (a b c d e f : Option (List ℕ)) (number count cuts : ℕ) (opened bytes owners prices : List ℕ) → Appends a b (sheet_line number count cuts) → Appends b c (opening_line opened) → ((ms : List Move) → bytes ≡ record_of ms → Appends c d (move_lines ms)) → Appends d e (owners_line owners) → Appends e f (prices_line prices) → (ms : List Move) → bytes ≡ record_of ms → Appends a f (run_lines number count cuts opened ms owners prices)
+unfolding run_lines
+run_sent a b c d e f number count cuts opened bytes owners prices A B C D E ms is =
+    let first = Appends-trans a b c _ _ A B in
+    let run = Appends-trans a c d _ _ first (C ms is) in
+    Appends-trans a e f _ _ (Appends-trans a d e _ _ run D) E
 
-  pub opening_text : {r : ℕ} {opened' out out' : List ℕ} (number : ℕ) → opened' ≡ (opening (as_read s)).owners → PutRun number count cuts opened' bytes owners prices out out' r → Put text_most (text_of printer s number) out 0 out' r
-  opening_text number o T =
-      let R = O.ran in
-      accepted_text printer number O.accepted (rw (R.count_is, R.cuts_are, R.owners_are, R.prices_are, o) at (T.put (moves_for s) O.bytes_are))
-
-module _ {s owners prices bytes : List ℕ} {count cuts : ℕ} (L : Left printer s count cuts owners prices) (N : Noted s bytes) where
-  -- the bytes of the moves lie in the record
-  pub moves_inside : move_size * count ≤ length bytes
-  moves_inside = omega (arith, L.ran.count_is, N.fit, N.sized)
-
-  -- what stands first in the lists is cut out of them
-  pub left_opening : {m end : ℕ} (opened : List ℕ) → m ≡ chores_of s → end ≡ move_size * count → max_chores ≡ length opened → Opening s count cuts (take (m - 0) owners) (take (m - 0) prices) (take (end - 0) bytes) (take (m - 0) opened)
-  left_opening {m} {end} opened e q l =
-      let chores : m - 0 ≡ chores_of s = omega arith in
-      let moves : end - 0 ≡ move_size * count = omega arith in
-      let whole : end - 0 ≡ move_size * (final_of s).moves = omega (arith, L.ran.count_is) in
-      record {
-        accepted = L.accepted;
-        ran = rw chores L.ran;
-        bytes_are = rw whole N.first;
-        bytes_few = rw moves (omega (arith, length-take-le (move_size * count) bytes moves_inside, moves_inside, N.sized));
-        opened_sized = first_sized_lem opened (sym l) e L.ran.valid.chores_fit;
-      }
+module _ {s owners prices bytes : List ℕ} {out : ShareOut} (L : Left printer s out.moves out.cuts owners prices) (N : Noted s bytes) where
+  -- what stands first in the record is that of the moves, and with what stands first in the lists its lines are the sheet's
+  pub left_text : (old new : Option (List ℕ)) {T E : Type 0} (r : Result T E) {m end : ℕ} {opened : List ℕ} (number : ℕ) → m ≡ chores_of s → end ≡ move_size * out.moves → opened ≡ (opening (as_read s)).owners → OnOk r ((ms : List Move) → take end bytes ≡ record_of ms → Appends old new (run_lines number out.moves out.cuts opened ms (take m owners) (take m prices))) → OnOk r (Appends old new (text_of printer s number))
+  left_text old new (Err x) number e q o S = tt
+  left_text old new (Ok x) {m} {end} {opened} number e q o S =
+      let R = L.ran in
+      let whole : end ≡ move_size * (final_of s).moves = omega (arith, R.count_is) in
+      let noted : take end bytes ≡ record_of (moves_for s) = rw whole N.first in
+      let is = accepted_text printer s number L.accepted in
+      rw is (rw (e, o, R.count_is, R.cuts_are, R.owners_are, R.prices_are) at (S (moves_for s) noted))

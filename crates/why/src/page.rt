@@ -1,50 +1,40 @@
 // The text of a sheet of a book.
-ghost use Rattle.std.specs.Prelude.{◌≤◌, ◌≡◌, length};
-ghost use Rattle.contents.specs.Fits.{SheetInBook};
-ghost use Rattle.pages.specs.Printing.{SheetShown};
-ghost use Rattle.why.specs.Page.{record_size};
-ghost use Rattle.why.specs.Told.{printer, text_room};
+ghost use Rattle.why.specs.Told.{printer, unbroken};
 
 use crate::told;
-use pages::SheetText;
+use model::{Refusal, ShareOut};
+use pages::SheetPrinter;
+use std::io;
+use std::io::Write;
 
 // Room for 20,000 moves.
 const RECORD_SIZE: usize = 120000;
 
-// Room for the text of any sheet.
-const TEXT_ROOM: usize = 1048576;
+pub struct Why;
 
-// Each list is made by a function of its own, whose contract tells its length and spares the callers its entries.
-fn no_record() -> [u8; RECORD_SIZE]
-    ensures { record_size ≡ length result }
-{
-    [0; RECORD_SIZE]
-}
+impl SheetPrinter for Why {
+    ghost printer = { printer };
 
-pub fn no_text() -> [u8; TEXT_ROOM]
-    ensures { text_room ≡ length result }
-{
-    [0; TEXT_ROOM]
-}
+    fn sheet_text<W: Write>(
+        book: &[u8],
+        j: usize,
+        to: &mut W,
+    ) -> io::Result<Result<ShareOut, Refusal>> {
+        let sheet = contents::sheet_at(book, j);
+        let mut owners = [0; model::MAX_CHORES];
+        let mut prices = [0; model::MAX_CHORES];
+        let mut scratch = [0; model::SCRATCH_SIZE];
+        let mut bytes = [0; RECORD_SIZE];
+        let answer = recorded::allocate_recorded(
+            sheet,
+            &mut owners,
+            &mut prices,
+            &mut scratch,
+            &mut bytes,
+        );
+        told::answer_text(sheet, j as u64 + 1, answer, &owners, &prices, &bytes, to)?;
+        Ok(answer)
+    }
 
-// Sheet j, counted from 0 and numbered from 1.
-pub fn sheet_text(book: &[u8], j: usize, out: &mut [u8]) -> SheetText
-    requires sheet_in_book { SheetInBook book.now j }
-    requires text_room_in_bounds { text_room ≤ length out.old }
-    ensures { SheetShown printer book.now j out.new result }
-{
-    let sheet = contents::sheet_at(book, j);
-    let mut owners = totals::no_owners();
-    let mut prices = totals::no_prices();
-    let mut scratch = totals::no_scratch();
-    let mut bytes = no_record();
-    let answer = recorded::allocate_recorded(
-        sheet,
-        &mut owners,
-        &mut prices,
-        &mut scratch,
-        &mut bytes,
-    );
-    let end = told::answer_text(sheet, j as u64 + 1, answer, &owners, &prices, &bytes, out);
-    SheetText { end, answer }
+    ghost unbroken = { unbroken };
 }

@@ -1,13 +1,17 @@
 // The text of one sheet, from what its share-out answered and left in the lists lent to it.
-ghost use Rattle.std.specs.Prelude.{◌≤◌, ◌≡◌, length};
+ghost use Rattle.std.specs.Prelude.{List, ◌≡◌, OnOk};
+ghost use Rattle.std.specs.Io.KnownBytes.{Appends};
 ghost use Rattle.model.specs.Sheet.{as_read};
 ghost use Rattle.model.specs.Algorithm.{opening};
-ghost use Rattle.text.specs.Put.{Put};
+ghost use Rattle.model.specs.Record.{Move, record_of};
 ghost use Rattle.pages.specs.Printer.{text_of};
 ghost use Rattle.pages.specs.Answered.{Left, Answered};
-ghost use Rattle.why.specs.Told.{printer, text_most, text_room, Wide, PutRun, Openable, Opening, Noted, NotedIf};
+ghost use Rattle.why.specs.Page.{run_lines};
+ghost use Rattle.why.specs.Told.{printer, Openable, Noted, NotedIf};
 
-use opening::open;
+use model::{Refusal, ShareOut};
+use std::io;
+use std::io::Write;
 use text::{lines, moves};
 
 // The opening list. Its prices, and who likes what, are left here.
@@ -17,110 +21,74 @@ fn opening_owners(sheet: &[u8], owners: &mut [u8])
 {
     let n = sheet::agents(sheet);
     let m = sheet::chores(sheet);
-    let mut prices = totals::no_prices();
+    let mut prices = [0; model::MAX_CHORES];
     let mut likes = [0; model::MAX_CHORES];
-    open(sheet, n, m, owners, &mut prices[0..m], &mut likes[0..m]);
+    opening::open(sheet, n, m, owners, &mut prices[..m], &mut likes[..m]);
 }
 
-fn run_lines(
+fn run_lines<W: Write>(
     number: u64,
-    count: u64,
-    cuts: u64,
+    out: ShareOut,
     opened: &[u8],
     bytes: &[u8],
     owners: &[u8],
     prices: &[u32],
-    out: &mut [u8],
-) -> usize
-    requires { Wide opened.now bytes.now owners.now prices.now out.old }
-    ensures { PutRun number count cuts opened.now bytes.now owners.now prices.now out.old out.new result }
+    to: &mut W,
+) -> io::Result<()>
+    ensures { OnOk result ((moves : List Move) → bytes.now ≡ record_of moves → Appends (W.contents to.old) (W.contents to.new) (run_lines number out.moves out.cuts opened.now moves owners.now prices.now)) }
 {
-    let a = lines::sheet_line(number, count, cuts, out, 0);
-    let b = lines::opening_line(opened, out, a);
-    let c = moves::moves_text(bytes, out, b);
-    let d = lines::owners_line(owners, out, c);
-    lines::prices_line(prices, out, d)
-}
-
-// The opening list goes into `opened`.
-fn opened_text(
-    sheet: &[u8],
-    number: u64,
-    count: u64,
-    cuts: u64,
-    owners: &[u8],
-    prices: &[u32],
-    bytes: &[u8],
-    opened: &mut [u8],
-    out: &mut [u8],
-) -> usize
-    requires opening { Opening sheet.now count cuts owners.now prices.now bytes.now opened.old }
-    requires text_room_in_bounds { text_room ≤ length out.old }
-    ensures { Put text_most (text_of printer sheet.now number) out.old 0 out.new result }
-{
-    opening_owners(sheet, opened);
-    run_lines(number, count, cuts, opened, bytes, owners, prices, out)
+    lines::sheet_line(number, out.moves, out.cuts as u64, to)?;
+    lines::opening_line(opened, to)?;
+    moves::moves_text(bytes, to)?;
+    lines::owners_line(owners, to)?;
+    lines::prices_line(prices, to)
 }
 
 // An accepted sheet: its entries stand first in the lists, and its moves in the record.
-fn shared_text(
+fn shared_text<W: Write>(
     sheet: &[u8],
     number: u64,
-    count: u64,
-    cuts: u64,
+    out: ShareOut,
     owners: &[u8],
     prices: &[u32],
     bytes: &[u8],
-    out: &mut [u8],
-) -> usize
-    requires left { Left printer sheet.now count cuts owners.now prices.now }
+    to: &mut W,
+) -> io::Result<()>
+    requires left { Left printer sheet.now out.moves out.cuts owners.now prices.now }
     requires noted { Noted sheet.now bytes.now }
-    requires text_room_in_bounds { text_room ≤ length out.old }
-    ensures { Put text_most (text_of printer sheet.now number) out.old 0 out.new result }
+    ensures { OnOk result (Appends (W.contents to.old) (W.contents to.new) (text_of printer sheet.now number)) }
 {
     let m = sheet::chores(sheet);
-    let end = model::MOVE_SIZE * count as usize;
-    let mut opened = totals::no_owners();
-    opened_text(
-        sheet,
+    let end = model::MOVE_SIZE * out.moves as usize;
+    let mut opened = [0; model::MAX_CHORES];
+    let opened = &mut opened[..m];
+    opening_owners(sheet, opened);
+    run_lines(
         number,
-        count,
-        cuts,
-        &owners[0..m],
-        &prices[0..m],
-        &bytes[0..end],
-        &mut opened[0..m],
         out,
+        opened,
+        &bytes[..end],
+        &owners[..m],
+        &prices[..m],
+        to,
     )
 }
 
-pub fn answer_text(
+pub fn answer_text<W: Write>(
     sheet: &[u8],
     number: u64,
-    answer: model::ShareOut,
+    answer: Result<ShareOut, Refusal>,
     owners: &[u8],
     prices: &[u32],
     bytes: &[u8],
-    out: &mut [u8],
-) -> usize
+    to: &mut W,
+) -> io::Result<()>
     requires answered { Answered printer sheet.now owners.now prices.now answer }
     requires noted_if { NotedIf sheet.now bytes.now }
-    requires text_room_in_bounds { text_room ≤ length out.old }
-    ensures { Put text_most (text_of printer sheet.now number) out.old 0 out.new result }
+    ensures { OnOk result (Appends (W.contents to.old) (W.contents to.new) (text_of printer sheet.now number)) }
 {
     match answer {
-        model::ShareOut::Refused(refusal) => lines::refused_line(number, refusal as u64, out, 0),
-        model::ShareOut::Shared { moves, cuts } => {
-            shared_text(
-                sheet,
-                number,
-                moves,
-                cuts as u64,
-                owners,
-                prices,
-                bytes,
-                out,
-            )
-        }
+        Ok(out) => shared_text(sheet, number, out, owners, prices, bytes, to),
+        Err(refusal) => lines::refused_line(number, refusal, to),
     }
 }

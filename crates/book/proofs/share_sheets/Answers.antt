@@ -8,9 +8,6 @@ use Rattle.book.proofs.share_sheets.Goals as goal
 pub loop-j-init : goal.loop-j-init
 loop-j-init c = begin _ c.none-total.ensures
 
-pub sheet_at-sheet-requires : goal.sheet_at-sheet-requires
-sheet_at-sheet-requires c = record { fits = c.requires.fits; below = omega arith }
-
 pub share_rest-answer-requires : goal.share_rest-answer-requires
 share_rest-answer-requires c = room _ c.requires c.loop-j.invariant (omega arith) c.loop-j.auto.numbers
 

@@ -1,12 +1,11 @@
 -- A refused book by its number, any other by its tally.
-use Rattle.std.proofs.Common.{arith, sym, ◌∙◌}
-use Rattle.pages.proofs.Printing.{shown, ends_total, ends_refused}
+use Rattle.std.proofs.Common.{arith, sym}
+use Rattle.model.proofs.Refusing.{numbered}
+use Rattle.pages.proofs.Printing.{ends_total, ends_refused}
 use Rattle.pages.proofs.last_text.Goals as goal
 
-pub returns-then-refusal-ne0 : goal.returns-then-refusal-ne0
-returns-then-refusal-ne0 c =
-    let is = c.contents_refusal-refusal.ensures in
-    rw (ends_refused _ (λ z. c.if-refusal-ne0.true (is ∙ z)), ← is) (shown c.book_refused_line.ensures (omega arith))
+pub returns-in-Ok : goal.returns-in-Ok
+returns-in-Ok g c = rw (ends_total _ (sym c.in-Ok.ensures)) c.total_line.ensures
 
-pub returns : goal.returns
-returns c = rw (ends_total _ (sym c.contents_refusal-refusal.ensures ∙ c.if-refusal-ne0.false)) (shown c.total_line.ensures (omega arith))
+pub returns-in-Err : goal.returns-in-Err
+returns-in-Err g c = rw (ends_refused c.args.book.now (λ z. omega (arith, c.in-Err.ensures, numbered c.in-Err.refusal)), ← c.in-Err.ensures) c.book_refused_line.ensures

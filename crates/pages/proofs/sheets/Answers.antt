@@ -1,14 +1,15 @@
 -- A book is refused or has a first byte.
-use Rattle.std.proofs.Common.{sym, ◌∙◌}
+use Rattle.std.proofs.Common.{arith, sym, ◌∙◌}
 use Rattle.contents.proofs.Refusal.{fits}
+use Rattle.model.proofs.Refusing.{numbered}
 use Rattle.pages.proofs.Printing.{all_printed, none_printed}
 use Rattle.pages.proofs.sheets.Goals as goal
 
-pub returns-then-contents_refusal-ne0 : goal.returns-then-contents_refusal-ne0
-returns-then-contents_refusal-ne0 c = sym (none_printed _ (λ z. c.if-contents_refusal-ne0.true (c.contents_refusal.ensures ∙ z)))
-
 pub count-requires : goal.count-requires
-count-requires c = (fits _ (sym c.contents_refusal.ensures ∙ c.if-contents_refusal-ne0.false)).some_byte
+count-requires c = (fits _ (sym c.in-Ok.ensures)).some_byte
 
-pub returns : goal.returns
-returns c = c.count.ensures.is ∙ sym (all_printed _ (sym c.contents_refusal.ensures ∙ c.if-contents_refusal-ne0.false))
+pub returns-in-Ok : goal.returns-in-Ok
+returns-in-Ok c = c.count.ensures.is ∙ sym (all_printed _ (sym c.in-Ok.ensures))
+
+pub returns-in-Err : goal.returns-in-Err
+returns-in-Err c = sym (none_printed _ (λ z. omega (arith, c.in-Err.ensures, numbered c.in-Err.field-0)))

@@ -1,12 +1,13 @@
-use Rattle.std.proofs.Common.{arith}
-use Rattle.text.proofs.Moving.{moves_begin, moves_next, moves_end}
+use Rattle.std.proofs.KnownBytes.{Appends-nil, Appends-trans}
+use Rattle.std.proofs.lemmas.List.{take_all}
+use Rattle.text.proofs.Moving.{lines_next, record_lines}
 use Rattle.text.proofs.moves.moves_text.Goals as goal
 
-pub loop-k-init : goal.loop-k-init
-loop-k-init c = moves_begin _
+pub loop-six-init : goal.loop-six-init
+loop-six-init g c = Appends-nil _
 
-pub loop-k-preserved : goal.loop-k-preserved
-loop-k-preserved c = moves_next _ c.loop-k.invariant c.loop-k-test.true c.move_at-end.ensures (omega arith)
+pub loop-six-preserved : goal.loop-six-preserved
+loop-six-preserved g c = rw (lines_next _ _ c.loop-six-test.true) (Appends-trans _ _ _ _ _ c.loop-six.invariant c.in_ok-move_line.ensures)
 
 pub returns : goal.returns
-returns c = moves_end _ c.loop-k.invariant c.loop-k-test.false
+returns g c = λ ms e. rw (take_all _ _ c.loop-six-test.false, c.as_chunks.ensures.front, record_lines _ ms e) at c.loop-six.invariant

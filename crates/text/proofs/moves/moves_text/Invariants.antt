@@ -1,10 +1,8 @@
--- The lines of the moves so far stand after the text.
-use Rattle.std.proofs.Common.{◌-◌}
-use Rattle.text.specs.Moves.{Moved}
+-- The lines of the moves so far are sent.
+use Rattle.std.proofs.Common.{take}
+use Rattle.std.specs.Io.KnownBytes.{Appends}
+use Rattle.text.proofs.Moving.{lines_of}
 use Rattle.text.proofs.moves.moves_text.Given as goal
 
-abbrev pub invariant-loop-k : goal.invariant-loop-k
-invariant-loop-k l = Moved l.bytes l.initial.out l.at l.out l.end l.k
-
-abbrev pub decreases-loop-k : goal.decreases-loop-k
-decreases-loop-k l = l.moves - l.k
+abbrev pub invariant-loop-six : goal.invariant-loop-six
+invariant-loop-six g l = Appends (g.W.Write.contents l.initial.to) (g.W.Write.contents l.to) (lines_of (take l.six-index l.moves))

@@ -1,7 +1,6 @@
 -- A sheet is turned down with its number.
-use Rattle.std.proofs.Common.{arith}
 use Rattle.pages.proofs.Answering.{refused_text}
 use Rattle.why.proofs.told.answer_text.Goals as goal
 
-pub returns-in-Refused : goal.returns-in-Refused
-returns-in-Refused c = refused_text c.requires.answered _ c.in-Refused.is c.refused_line.ensures (omega arith)
+pub returns-in-Err : goal.returns-in-Err
+returns-in-Err g c = rw (refused_text _ _ c.args.number (c.requires.answered.turned_down _ c.in-Err.is)) c.refused_line.ensures
