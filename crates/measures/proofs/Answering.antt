@@ -48,7 +48,7 @@ module _ (s : List ℕ) where
   measures_at i l = tab_at (maximin_share (as_marked s)) i 0 l
 
   -- the numbers of the agents, in a list that has them in its first entries
-  whole_at : (before : List ℕ) {numbers : List ℕ} → numbers ≡ measures_of s ++ drop (agents_of s) before → (i : ℕ) → i < agents_of s → get_or numbers i 0 ≡ maximin_share (as_marked s) i
+  pub whole_at : (before : List ℕ) {numbers : List ℕ} → numbers ≡ measures_of s ++ drop (agents_of s) before → (i : ℕ) → i < agents_of s → get_or numbers i 0 ≡ maximin_share (as_marked s) i
   whole_at before whole i l =
       ap (λ xs. get_or xs i 0) whole ∙ get_or-append (measures_of s) (drop (agents_of s) before) 0 i (rw measures_long l) ∙ measures_at i l
 

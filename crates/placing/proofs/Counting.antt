@@ -17,7 +17,7 @@ use Rattle.finite.proofs.Counts.{count_le}
 use Rattle.model.specs.Limits.{max_agents, max_chores}
 use Rattle.model.specs.Instance.{Instance}
 use Rattle.model.specs.Sheet.{agents_of, chores_of, difficult_marks, as_marked}
-use Rattle.sheet.specs.Readers.{SheetRead}
+use Rattle.sheet.specs.Valid.{Valid}
 use Rattle.measures.proofs.Bearable.{difficult_count, easy_count}
 use Rattle.measures.proofs.Measuring.{difficult_marked, easy_marked}
 use Rattle.quotas.specs.Quotas.{difficult_in_all}
@@ -43,29 +43,28 @@ counted_more {U} {k} {v} {counts} C l e =
           (λ ne. rw (get_or-set_other counts k i v 0 ne) (C.each i (omega arith)));
     }
 
-module _ {s : List ℕ} {n m : ℕ} (z : SheetRead s n m) where
+module _ (s : List ℕ) where
   module _ (i : ℕ) {d : ℕ} (marks : d ≡ difficult_marks s i) where
     pub marked_difficult : d ≡ difficult_count (units_on s) i
     marked_difficult = marks ∙ sym (difficult_marked s i)
 
-    pub marked_few : d ≤ m
+    pub marked_few : d ≤ chores_of s
     unfolding as_marked
-    marked_few = rw (marked_difficult, z.chores) (count_le (chores_of s) _)
+    marked_few = rw marked_difficult (count_le (chores_of s) _)
 
-    pub marked_easy : m - d ≡ easy_count (units_on s) i
-    marked_easy = rw (marks, z.chores) (sym (easy_marked s i))
+    pub marked_easy : chores_of s - d ≡ easy_count (units_on s) i
+    marked_easy = rw marks (sym (easy_marked s i))
 
   -- the marks of all agents, and they are few enough to be counted together
-  pub marks_in_all : sum_by (difficult_marks s) (range_with_len 0 n) ≡ difficult_in_all (units_on s)
+  pub marks_in_all : sum_by (difficult_marks s) (range_with_len 0 (agents_of s)) ≡ difficult_in_all (units_on s)
   unfolding as_marked
   marks_in_all =
-      range_sum (difficult_marks s) 0 n
-      ∙ sum_cong n (λ i _. ap (difficult_marks s) (zero-add i) ∙ sym (difficult_marked s i))
-      ∙ ap (λ k. sum_to k (difficult_count (units_on s))) z.agents
+      range_sum (difficult_marks s) 0 (agents_of s)
+      ∙ sum_cong (agents_of s) (λ i _. ap (difficult_marks s) (zero-add i) ∙ sym (difficult_marked s i))
 
-  pub few_in_all_lem : difficult_in_all (units_on s) ≤ max_agents * max_chores
+  pub few_in_all_lem : Valid s → difficult_in_all (units_on s) ≤ max_agents * max_chores
   unfolding as_marked
-  few_in_all_lem =
+  few_in_all_lem ok =
       le_trans
       (sum_at_most (agents_of s) (chores_of s) (λ i _. count_le (chores_of s) _))
-      (mul-le-mul z.valid.agents_fit z.valid.chores_fit)
+      (mul-le-mul ok.agents_fit ok.chores_fit)

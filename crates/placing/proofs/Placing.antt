@@ -25,7 +25,7 @@ unfolding cost
 light U unit heavy i c = by_cond (λ v. v ≤ U.b) (U.easy i c) U.a U.b (λ _. rw unit heavy) (λ _. le_refl U.b)
 
 -- the rest goes to agents with places
-module _ {U : Instance} (unit : U.a ≡ 1) (heavy : 0 < U.b) (fits : U.n ≤ max_agents) where
+module _ {U : Instance} where
   module _ {places owners : List ℕ} where
     pub placed_none : Roomy U places owners → PlacedTo U 0 places owners places owners
     placed_none r = record { within = omega arith; roomy = r; owned = λ c l. none_below l; each = λ i l. le_refl _ }
@@ -46,8 +46,8 @@ module _ {U : Instance} (unit : U.a ≡ 1) (heavy : 0 < U.b) (fits : U.n ≤ max
             let some : 0 < count_to U.m (free owners') = count_point (free owners') k below (eq-eqb (get_or owners' k 0) 0 none) in
             omega (arith, p.roomy.room)
 
-        pub placed_one : {i : ℕ} → HasPlace U.n i places' → PlacedTo U (k + 1) places owners (set places' i (get_or places' i 0 - 1)) (set owners' k (i + 1))
-        placed_one {i} h =
+        pub placed_one : {i : ℕ} → U.a ≡ 1 → 0 < U.b → U.n ≤ max_agents → HasPlace U.n i places' → PlacedTo U (k + 1) places owners (set places' i (get_or places' i 0 - 1)) (set owners' k (i + 1))
+        placed_one {i} unit heavy fits h =
             let f : ℕ → ℕ = λ k. get_or places' k 0 in
             let fewer = set places' i (f i - 1) in
             let F = p.roomy.filling in

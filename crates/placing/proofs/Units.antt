@@ -11,15 +11,16 @@ use Rattle.finite.specs.Lists.{Picks}
 use Rattle.finite.proofs.Sums.{sum_cong, sum_scale}
 use Rattle.finite.proofs.Where.{where_cong, where_scale}
 use Rattle.model.specs.Instance.{Instance, cost, owner_of}
-use Rattle.model.specs.Sheet.{agents_of, easy_weight, difficult_weight, as_marked}
+use Rattle.model.specs.Sheet.{agents_of, easy_weight, as_marked}
 use Rattle.model.specs.Fairness.{owns, total, cost_to}
 use Rattle.model.specs.MaximinShare.{in_bundle, bundle_cost}
 use Rattle.sheet.specs.Valid.{Valid}
 use Rattle.measures.proofs.Shares.{share_bearable}
 use Rattle.measures.proofs.Bearable.{whole_cost, Bearable, in_one}
+use Rattle.quotas.specs.Quotas.{Bears}
 use Rattle.placing.specs.Filling.{load, AllPlaced}
 use Rattle.placing.specs.Queueing.{AllServed}
-use Rattle.placing.specs.Sheets.{in_units, units_on, units_of, Quoted, MeasuredSheet, Within}
+use Rattle.placing.specs.Sheets.{in_units, units_on, units_of, MeasuredSheet, Within}
 
 -- a difficult chore costs some units
 pub heavy : (s : List ℕ) → Valid s → 0 < (units_on s).b
@@ -60,37 +61,28 @@ module _ (I : Instance) (positive : 0 < I.a) (divides : I.a ∣ I.b) where
   within_units {y} {M} i p multiple h = omega (arith, cost_of_load p i, mul-le-mul_left I.a h, mul-div_cancel' I.a multiple)
 
 -- a sheet with its measures
-module _ {s : List ℕ} {n m : ℕ} {numbers : List ℕ} (M : MeasuredSheet s n m numbers) {a : ℕ} (light : a ≡ easy_weight s) where
+module _ {s numbers : List ℕ} (ok : Valid s) (M : MeasuredSheet s numbers) where
   measure_bearable : (i : ℕ) → i < agents_of s → Bearable (as_marked s) i (get_or numbers i 0)
   unfolding as_marked
   measure_bearable i l =
-      let ok = M.sized.valid in
       rw (M.each i l) (share_bearable (as_marked s) i ok.some_agent ok.easy_positive (omega (arith, ok.easier)) M.divides)
 
-  pub quoted : {b : ℕ} → b ≡ difficult_weight s → Quoted s n m a (b / a) numbers
+  pub bears : Bears (units_on s) (units_of (easy_weight s) numbers)
   unfolding as_marked
-  quoted weighs =
-      let ok = M.sized.valid in
+  bears =
       record {
-        sized = M.sized;
-        easy = rw light ok.easy_positive;
-        weight = rw (weighs, light);
-        bears =
-            record {
-              some = ok.some_agent;
-              unit = refl;
-              heavy = heavy s ok;
-              each = λ k l. rw light (bearable_units (as_marked s) ok.easy_positive M.divides (measure_bearable k l));
-            };
+        some = ok.some_agent;
+        unit = refl;
+        heavy = heavy s ok;
+        each = λ k l. bearable_units (as_marked s) ok.easy_positive M.divides (measure_bearable k l);
       }
 
-  pub within_all : {places owners owners' : List ℕ} → AllServed (units_on s) (units_of a numbers) places owners → AllPlaced (units_on s) places owners owners' → Within s owners'
+  pub within_all : {places owners owners' : List ℕ} → AllServed (units_on s) (units_of (easy_weight s) numbers) places owners → AllPlaced (units_on s) places owners owners' → Within s owners'
   unfolding as_marked
   within_all {places} {owners} {owners'} R P =
-      let ok = M.sized.valid in
       record {
         picks = P.picks;
         each = λ i l.
-            let units : load (units_on s) owners' i ≤ get_or numbers i 0 / a = le_trans (P.each i l) (R.each i l) in
-            rw (← M.each i l) (within_units (as_marked s) ok.easy_positive M.divides i P.picks (measure_bearable i l).multiple (rw light at units));
+            let units : load (units_on s) owners' i ≤ get_or numbers i 0 / easy_weight s = le_trans (P.each i l) (R.each i l) in
+            rw (← M.each i l) (within_units (as_marked s) ok.easy_positive M.divides i P.picks (measure_bearable i l).multiple units);
       }

@@ -3,13 +3,11 @@ use Rattle.std.specs.Prelude.{ℕ, ◌/◌, ◌≤◌, ◌<◌, List, ◌≡◌,
 use Rattle.std.specs.Int.{◌∣◌}
 use Rattle.finite.specs.Sums.{sum_to}
 use Rattle.finite.specs.Lists.{Picks}
-use Rattle.model.specs.Limits.{max_chores}
+use Rattle.model.specs.Limits.{max_agents, max_chores}
 use Rattle.model.specs.Instance.{Instance, owner_of}
 use Rattle.model.specs.Sheet.{agents_of, chores_of, easy_weight, difficult_weight, as_marked}
 use Rattle.model.specs.Fairness.{cost_to}
 use Rattle.model.specs.MaximinShare.{maximin_share}
-use Rattle.sheet.specs.Readers.{SheetRead, RowInSheet}
-use Rattle.quotas.specs.Quotas.{Bears}
 use Rattle.placing.specs.Filling.{PartList}
 
 -- a problem with costs in units of the easy weight
@@ -23,28 +21,20 @@ units_on s = in_units (as_marked s)
 abbrev pub units_of : ℕ → List ℕ → ℕ → ℕ
 units_of a numbers k = get_or numbers k 0 / a
 
--- a sheet with its measures: a is the easy weight, q the difficult one in units of it
-pub record Quoted (s : List ℕ) (n m a q : ℕ) (numbers : List ℕ) : Type 0 where
-  pub sized : SheetRead s n m
-  pub easy : 0 < a
-  pub weight : q ≡ (units_on s).b
-  pub bears : Bears (units_on s) (units_of a numbers)
-
 -- agent j takes chores
-pub record Taking (s : List ℕ) (m j : ℕ) (owners : List ℕ) : Type 0 where
-  pub row : RowInSheet s m j
+pub record Taking (s : List ℕ) (j : ℕ) (owners : List ℕ) : Type 0 where
+  pub agent : j < agents_of s
+  pub slot : j < max_agents
   pub filling : PartList (units_on s) owners
 
 -- a place for chore c is looked for
-pub record Seeking (s : List ℕ) (n m c : ℕ) (places : List ℕ) : Type 0 where
-  pub sized : SheetRead s n m
-  pub chore : c < m
-  pub few : (i : ℕ) → i < n → get_or places i 0 ≤ max_chores
-  pub some : 0 < sum_to n (λ i. get_or places i 0)
+pub record Seeking (s : List ℕ) (c : ℕ) (places : List ℕ) : Type 0 where
+  pub chore : c < chores_of s
+  pub few : (i : ℕ) → i < agents_of s → get_or places i 0 ≤ max_chores
+  pub some : 0 < sum_to (agents_of s) (λ i. get_or places i 0)
 
 -- what the list is made from: a sheet whose weights divide, and its measures
-pub record MeasuredSheet (s : List ℕ) (n m : ℕ) (numbers : List ℕ) : Type 0 where
-  pub sized : SheetRead s n m
+pub record MeasuredSheet (s numbers : List ℕ) : Type 0 where
   pub divides : easy_weight s ∣ difficult_weight s
   pub each : (i : ℕ) → i < agents_of s → get_or numbers i 0 ≡ maximin_share (as_marked s) i
 

@@ -13,16 +13,20 @@ use Rattle.placing.proofs.places_in_all.Goals.{After-sum-difficult}
 
 pub sum-difficult-requires-clause-fits : goal.sum-difficult-requires-clause-fits
 sum-difficult-requires-clause-fits c =
-    fits_by_from_yields_list (difficult_marks c.args.sheet.now) (range_with_len 0 c.args.n) c.map.result _ (YieldsList-from_map _ (difficult_marks c.args.sheet.now) (YieldsList-from_range {s = c.map.result.iter} 0 c.args.n c.args.n c.map.ensures.source (omega arith)) c.map.ensures.closure (λ x r q k. search (rules, tests))) (omega (arith, marks_in_all c.requires, few_in_all_lem c.requires))
+    let n = c.agents-n.result in
+    let told = c.agents-n.ensures in
+    fits_by_from_yields_list (difficult_marks c.args.sheet.now) (range_with_len 0 n) c.map.result _ (YieldsList-from_map _ (difficult_marks c.args.sheet.now) (YieldsList-from_range {s = c.map.result.iter} 0 n n c.map.ensures.source (omega arith)) c.map.ensures.closure (λ x r q k. search (rules, tests))) (rw told.is (omega (arith, marks_in_all c.args.sheet.now, few_in_all_lem c.args.sheet.now told.valid)))
 
 whole : (c : After-sum-difficult) → c.sum-difficult.result ≡ difficult_in_all (units_on c.args.sheet.now)
 whole c =
-    sum_by_from_yields_List (difficult_marks c.args.sheet.now) (range_with_len 0 c.args.n) c.map.result c.sum-difficult.result c.sum-difficult.ensures.ran (YieldsList-from_map _ (difficult_marks c.args.sheet.now) (YieldsList-from_range {s = c.map.result.iter} 0 c.args.n c.args.n c.map.ensures.source (omega arith)) c.map.ensures.closure (λ x r q k. search (rules, tests))) ∙ marks_in_all c.requires
+    let n = c.agents-n.result in
+    let told = c.agents-n.ensures in
+    sum_by_from_yields_List (difficult_marks c.args.sheet.now) (range_with_len 0 n) c.map.result c.sum-difficult.result c.sum-difficult.ensures.ran (YieldsList-from_map _ (difficult_marks c.args.sheet.now) (YieldsList-from_range {s = c.map.result.iter} 0 n n c.map.ensures.source (omega arith)) c.map.ensures.closure (λ x r q k. search (rules, tests))) ∙ rw told.is (marks_in_all c.args.sheet.now)
 
 pub overflow_cast-result : goal.overflow_cast-result
 overflow_cast-result c =
-    omega (arith, whole (goal.at.overflow_cast-result c).After-sum-difficult, few_in_all_lem c.requires, div-le_self c.sum-difficult.result c.args.n)
+    omega (arith, whole (goal.at.overflow_cast-result c).After-sum-difficult, few_in_all_lem c.args.sheet.now c.agents-n.ensures.valid, div-le_self c.sum-difficult.result c.agents-n.result)
 
 pub returns : goal.returns
 unfolding as_marked
-returns c = rw (whole (goal.at.returns c).After-sum-difficult, c.requires.agents)
+returns c = rw (whole (goal.at.returns c).After-sum-difficult, c.agents-n.ensures.is)
