@@ -83,9 +83,7 @@ pub fn run(
     ensures { RunEnds sheet.now owners.new prices.new groups.new entitled.new «record».old «record».new result.moves result.cuts }
 {
     let mut table = Table::new();
-    fill_table(
-        sheet, owners, prices, groups, entitled, likes, &mut table,
-    );
+    fill_table(sheet, owners, prices, groups, entitled, likes, &mut table);
     take_turns(
         sheet, owners, prices, groups, entitled, likes, &mut table, scratch, record,
     )

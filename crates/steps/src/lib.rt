@@ -119,7 +119,16 @@ pub fn step(
         result owners.new prices.new groups.new entitled.new table.new.first table.new.sets }
 {
     let view = at.view;
-    match seek(sheet, owners, prices, groups, &table.sets, view, scratch, at.stage) {
+    match seek(
+        sheet,
+        owners,
+        prices,
+        groups,
+        &table.sets,
+        view,
+        scratch,
+        at.stage,
+    ) {
         Due::Hand(due) => hand_over(owners, prices, entitled, likes, view, table, due),
         Due::Pass => Turn::Passed,
         Due::Cut => {
