@@ -1,10 +1,10 @@
--- `firsts::table::hand_on` meets its contract.
+-- `firsts::table::Table::hand_on` meets its contract.
 use Rattle.std.proofs.Common.{refl}
 use Rattle.model.specs.Instance.{owner_of}
 use Rattle.market.specs.Market.{entitled_of}
 use Rattle.firsts.specs.Traits.{has_trait}
 use Rattle.firsts.proofs.Handing.{handed_on}
-use Rattle.firsts.proofs.table.hand_on.Goals as goal
+use Rattle.firsts.proofs.table.Table.hand_on.Goals as goal
 
 pub lose-requires-clause-set_of : goal.lose-requires-clause-set_of
 unfolding has_trait entitled_of
