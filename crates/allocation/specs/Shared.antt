@@ -20,10 +20,6 @@ pub record Working (s groups entitled likes : List ℕ) : Type 0 where
   pub none_entitled : entitled ≡ replicate (chores_of s) 0
   pub no_likes : likes ≡ replicate (chores_of s) 0
 
--- so many chores are few
-abbrev pub few : ℕ
-few = 200
-
 -- lists of at least as many entries; no chore is entitled, and none is liked
 pub record Long (s entitled likes : List ℕ) : Type 0 where
   pub none_entitled : entitled ≡ replicate (length entitled) 0

@@ -1,47 +1,22 @@
 // The share-out: Algorithm 1 on a sheet.
 #![tactic(auto)]
 
-ghost use Rattle.std.specs.Prelude.{◌≤◌, ◌≡◌, length, replicate};
-ghost use Rattle.model.specs.Limits.{max_agents, max_chores, scratch_size};
+ghost use Rattle.std.specs.Prelude.{◌≤◌, ◌≡◌, length};
+ghost use Rattle.model.specs.Limits.{max_chores, scratch_size};
 ghost use Rattle.model.specs.Sheet.{chores_of};
 ghost use Rattle.model.specs.RefusalNumbers.{number_of};
 ghost use Rattle.model.specs.Refusals.{allocate_refusal};
 ghost use Rattle.model.specs.Promises.{Allocated};
-ghost use Rattle.allocation.specs.Shared.{few, Sharing, Working, Long, Shared, SharedWith};
+ghost use Rattle.allocation.specs.Shared.{Sharing, Working, Long, Shared, SharedWith};
 
 use model::{Refusal, ShareOut};
-use opening::{no_likes, open};
+use opening::open;
 use runs::run;
 use steps::Stand;
 use totals::clear;
 
-// Each working list is made in a function of its own, so that its entries are one value where it is used.
-fn no_groups() -> [u8; model::MAX_AGENTS]
-    ensures { result ≡ replicate max_agents 0 }
-{
-    [0; model::MAX_AGENTS]
-}
-
-fn none_entitled() -> [u8; model::MAX_CHORES]
-    ensures { result ≡ replicate max_chores 0 }
-{
-    [0; model::MAX_CHORES]
-}
-
 // So many chores are few.
 const FEW: usize = 200;
-
-fn few_entitled() -> [u8; FEW]
-    ensures { result ≡ replicate few 0 }
-{
-    [0; FEW]
-}
-
-fn few_likes() -> [u32; FEW]
-    ensures { result ≡ replicate few 0 }
-{
-    [0; FEW]
-}
 
 // The opening and the run, with working lists of the lengths that the sheet asks for.
 fn share_with(
@@ -82,7 +57,7 @@ fn share_in(
 {
     let n = sheet::agents(sheet);
     let m = sheet::chores(sheet);
-    let mut groups = no_groups();
+    let mut groups = [0; model::MAX_AGENTS];
     share_with(
         sheet,
         owners,
@@ -95,7 +70,8 @@ fn share_in(
     )
 }
 
-fn share_few(
+// With lists for so many chores.
+fn share_in_room<const CHORES: usize>(
     sheet: &[u8],
     owners: &mut [u8],
     prices: &mut [u32],
@@ -103,36 +79,12 @@ fn share_few(
     record: &mut [u8],
 ) -> Stand
     requires sharing { Sharing sheet.now owners.old prices.old }
-    requires sheet_bound { chores_of sheet.now ≤ few }
+    requires room { (chores_of sheet.now ≤ CHORES) × (CHORES ≤ max_chores) }
     requires scratch_len { length scratch.old ≡ scratch_size }
     ensures { Shared sheet.now owners.new prices.new «record».old «record».new result.moves result.cuts }
 {
-    let mut entitled = few_entitled();
-    let mut likes = few_likes();
-    share_in(
-        sheet,
-        owners,
-        prices,
-        &mut entitled,
-        &mut likes,
-        scratch,
-        record,
-    )
-}
-
-fn share_many(
-    sheet: &[u8],
-    owners: &mut [u8],
-    prices: &mut [u32],
-    scratch: &mut [u8],
-    record: &mut [u8],
-) -> Stand
-    requires sharing { Sharing sheet.now owners.old prices.old }
-    requires scratch_len { length scratch.old ≡ scratch_size }
-    ensures { Shared sheet.now owners.new prices.new «record».old «record».new result.moves result.cuts }
-{
-    let mut entitled = none_entitled();
-    let mut likes = no_likes();
+    let mut entitled = [0; CHORES];
+    let mut likes = [0; CHORES];
     share_in(
         sheet,
         owners,
@@ -158,9 +110,10 @@ pub fn share(
     ensures { Shared sheet.now owners.new prices.new «record».old «record».new result.moves result.cuts }
 {
     if sheet::chores(sheet) <= FEW {
-        return share_few(sheet, owners, prices, scratch, record);
+        share_in_room::<FEW>(sheet, owners, prices, scratch, record)
+    } else {
+        share_in_room::<{ model::MAX_CHORES }>(sheet, owners, prices, scratch, record)
     }
-    share_many(sheet, owners, prices, scratch, record)
 }
 
 // What a share-out is turned down for.
@@ -209,6 +162,5 @@ pub fn allocate(
     ensures { Allocated sheet.now owners.old prices.old scratch.old owners.new prices.new scratch.new result }
 {
     admit(sheet, owners.len(), prices.len(), scratch.len())?;
-    let mut unrecorded = [0u8; 0];
-    Ok(share_out(sheet, owners, prices, scratch, &mut unrecorded))
+    Ok(share_out(sheet, owners, prices, scratch, &mut []))
 }

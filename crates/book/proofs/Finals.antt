@@ -7,6 +7,8 @@ use native.Mathlib.Nat.{mul-zero}
 use native.Mathlib.Omega.{arith}
 use lib.ListN.{length}
 use Rattle.finite.proofs.Tests.{by_test, cond-le}
+use Rattle.std.specs.Prelude.{Result}
+use Rattle.model.specs.declared.Refusal.{Refusal}
 use Rattle.model.specs.declared.ShareOut.{ShareOut}
 use Rattle.model.specs.Limits.{max_chores}
 use Rattle.model.specs.Sheet.{chores_of}
@@ -65,7 +67,7 @@ module _ (s : List ℕ) where
   bytes_written = by_test (accepts s) (λ e. rw e) (λ e. rw e)
 
   -- what an answer says
-  module _ {out : ShareOut} (told : share_out_reply out ≡ answer_of s) where
+  module _ {out : Result ShareOut Refusal} (told : share_out_reply out ≡ answer_of s) where
     pub answer_parts : Parts out (accepts s) (final_of s).moves (final_of s).cuts (sheet_refusal s)
     unfolding answer_of
     answer_parts = parts out (accepts s) told

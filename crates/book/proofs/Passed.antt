@@ -13,9 +13,11 @@ use Rattle.finite.specs.Sums.{sum_to}
 use Rattle.finite.proofs.Tests.{by_test, by_cond}
 use Rattle.finite.proofs.Below.{by_less, by_same}
 use Rattle.finite.proofs.Sums.{sum_zero, sum_next, sum_mono, sum_at_most}
+use Rattle.std.specs.Prelude.{Option, Some, Result}
+use Rattle.model.specs.declared.Refusal.{Refusal}
 use Rattle.model.specs.declared.Tally.{Tally}
 use Rattle.model.specs.declared.ShareOut.{ShareOut}
-use Rattle.model.specs.declared.SheetEntry.{SheetEntry}
+use Rattle.model.specs.declared.SheetShare.{SheetShare}
 use Rattle.model.specs.Limits.{max_agents, max_chores, max_sheets, book_entries}
 use Rattle.model.specs.Contents.{sheet_count, sheet_of}
 use Rattle.model.specs.Algorithm.{State}
@@ -23,7 +25,6 @@ use Rattle.model.specs.MostMoves.{most_ever}
 use Rattle.model.specs.Refusals.{sheet_refusal}
 use Rattle.model.specs.Replies.{absent, sheet_reply, reply_at}
 use Rattle.model.specs.Book.{own_refusal, takes_sheet, first_entry, sheet_answer, long_list, over_accepted, tally_of, most_in_book}
-use Rattle.model.specs.Promises.{entry_at}
 use Rattle.allocation.specs.Final.{accepts, final_of}
 use Rattle.allocation.proofs.Final.{accepted, final_demand3, final_few, few_moves, few_cuts}
 use Rattle.tally.specs.Counting.{moves_added, cuts_added, Fitting, Counted}
@@ -57,13 +58,13 @@ module _ (book : List ℕ) where
       (λ t. rw t zero-le)
 
   -- before any sheet
-  pub begin : {owners prices scratch : List ℕ} {sheets : List SheetEntry} {total : Tally} → sheets ≡ no_entries → (total.moves ≡ 0) × (total.cuts ≡ 0) → Passed book owners prices scratch owners prices scratch sheets total 0 0
-  begin e none =
+  pub begin : {owners prices scratch : List ℕ} {total : Tally} → (total.moves ≡ 0) × (total.cuts ≡ 0) → Passed book owners prices scratch owners prices scratch no_entries total 0 0
+  begin none =
       record {
         within = zero-le;
         first_free = sym (first_zero book);
-        size = ap length e;
-        answers = λ i. none_at e i ∙ rw (le-ltb i 0 zero-le);
+        size = refl;
+        answers = λ i. none_at i ∙ rw (le-ltb i 0 zero-le);
         moves = none.0 ∙ sym (sum_zero _);
         cuts = none.1 ∙ sym (sum_zero _);
         owners_now = long_zero book 1 owner_bytes _;
@@ -71,7 +72,7 @@ module _ (book : List ℕ) where
         scratch_now = refl;
       }
 
-  module _ {lent_owners lent_prices lent_scratch numbers owners prices scratch : List ℕ} {sheets : List SheetEntry} {total : Tally} {first j : ℕ} (F : Fine book lent_owners lent_prices lent_scratch numbers) (P : Passed book lent_owners lent_prices lent_scratch owners prices scratch sheets total first j) where
+  module _ {lent_owners lent_prices lent_scratch numbers owners prices scratch : List ℕ} {sheets : List (Option (Result SheetShare Refusal))} {total : Tally} {first j : ℕ} (F : Fine book lent_owners lent_prices lent_scratch numbers) (P : Passed book lent_owners lent_prices lent_scratch owners prices scratch sheets total first j) where
     reach : first_entry book j ≤ book_entries
     reach = first_fits book F.fits j P.within
 
@@ -93,7 +94,7 @@ module _ (book : List ℕ) where
           }
 
       -- what the answer of sheet j says, and what follows of it
-      module _ {sheet owners' prices' scratch' : List ℕ} {out : ShareOut} (same : sheet ≡ sheet_of book j) (D : RestShared sheet first owners prices scratch owners' prices' scratch' out) where
+      module _ {sheet owners' prices' scratch' : List ℕ} {out : Result ShareOut Refusal} (same : sheet ≡ sheet_of book j) (D : RestShared sheet first owners prices scratch owners' prices' scratch' out) where
         here : Parts out (accepts (sheet_of book j)) (finals_of book j).moves (finals_of book j).cuts (own_refusal book j)
         unfolding finals_of own_refusal
         here = answer_parts (sheet_of book j) (rw same at D.answer)
@@ -119,18 +120,18 @@ module _ (book : List ℕ) where
           pub still_fits : first + n ≤ book_entries
           still_fits = rw next_free next_fits
 
-          module _ (new : SheetEntry) {total' : Tally} (E : sheet_reply new.result ≡ placed first out) (C : Counted total (moves_added out) (cuts_added out) total') where
-            told_now : sheet_reply new.result ≡ told book j
+          module _ (new : Result SheetShare Refusal) {total' : Tally} (E : sheet_reply (Some new) ≡ placed first out) (C : Counted total (moves_added out) (cuts_added out) total') where
+            told_now : sheet_reply (Some new) ≡ told book j
             unfolding told
             told_now = E ∙ here.place first ∙ rw P.first_free
 
-            replies : (i : ℕ) → reply_at (set sheets j new) i ≡ cond (ltb i (j + 1)) (told book i) absent
+            replies : (i : ℕ) → reply_at (set sheets j (Some new)) i ≡ cond (ltb i (j + 1)) (told book i) absent
             replies i =
                 by_same i j
                 (λ e. rw (e, lt-ltb j (j + 1) (omega arith)) (reply_new sheets j new (omega (arith, P.size, F.fits.sheets_fit)) ∙ told_now))
                 (λ ne. reply_kept sheets j new i ne ∙ P.answers i ∙ ap (λ t. cond t (told book i) absent) (one_more i ne))
 
-            pub onward : Passed book lent_owners lent_prices lent_scratch owners' prices' scratch' (set sheets j new) total' (first + n) (j + 1)
+            pub onward : Passed book lent_owners lent_prices lent_scratch owners' prices' scratch' (set sheets j (Some new)) total' (first + n) (j + 1)
             unfolding counts
             onward =
                 record {
@@ -146,8 +147,8 @@ module _ (book : List ℕ) where
                 }
 
     -- when all sheets have passed
-    pub finish : j ≡ sheet_count book → (k : ℕ) → k ≡ sheet_count book → SharedInBytes book lent_owners lent_prices lent_scratch owners prices scratch (record { refusal = 0; count = k; sheets = sheets; tally = total })
-    unfolding entry_at sheet_answer long_list over_accepted tally_of takes_sheet own_refusal accepts told counts long_after finals_of
+    pub finish : j ≡ sheet_count book → (k : ℕ) → k ≡ sheet_count book → SharedInBytes book lent_owners lent_prices lent_scratch owners prices scratch (record { count = k; sheets = sheets; tally = total })
+    unfolding sheet_answer long_list over_accepted tally_of takes_sheet own_refusal accepts told counts long_after finals_of
     finish e k counted =
         record {
           numbers = long_list book (finals_of book) (λ x. x.prices) (prices_in lent_prices);
@@ -157,7 +158,6 @@ module _ (book : List ℕ) where
                 demand3 = λ i l t. final_demand3 (sheet_of book i) (eqb-true (sheet_refusal (sheet_of book i)) 0 t);
                 few = λ i l t. final_few (sheet_of book i) (eqb-true (sheet_refusal (sheet_of book i)) 0 t);
                 few_in_all = omega (arith, rw e at P.moves, tally_few);
-                refusal = refl;
                 count = counted;
                 answers = rw e at P.answers;
                 moves = rw e at P.moves;

@@ -7,6 +7,8 @@ use native.Mathlib.Omega.{arith}
 use lib.ListN.{length, take, drop, replicate, length-drop}
 use Rattle.finite.proofs.Below.{by_same}
 use Rattle.finite.proofs.Lists.{rest_whole, rest_back}
+use Rattle.std.specs.Prelude.{Result}
+use Rattle.model.specs.declared.Refusal.{Refusal}
 use Rattle.model.specs.declared.ShareOut.{ShareOut}
 use Rattle.model.specs.Limits.{max_chores, scratch_size}
 use Rattle.model.specs.Algorithm.{State}
@@ -26,14 +28,14 @@ abbrev pub handed_back : List ℕ → ℕ → List ℕ → List ℕ
 handed_back xs a ys = take a xs ++ (ys ++ drop (length xs - a) (drop a xs))
 
 -- what the share-out leaves of the lists lent to it, whether it takes the sheet or not
-record Left (s owners scratch owners' numbers' scratch' : List ℕ) (out : ShareOut) : Type 0 where
+record Left (s owners scratch owners' numbers' scratch' : List ℕ) (out : Result ShareOut Refusal) : Type 0 where
   answer : share_out_reply out ≡ answer_of s
   owners_written : take (entries_in s) owners' ≡ written_of owner_bytes s
   owners_kept : drop (entries_in s) owners' ≡ drop (entries_in s) owners
   prices_written : take (entries_in s) numbers' ≡ written_of (λ x. x.prices) s
   zeros : scratch ≡ replicate (length scratch) 0 → scratch' ≡ scratch
 
-module _ {s lent numbers scratch o p c : List ℕ} {out : ShareOut} (A : Allocated s lent numbers scratch o p c out) (many : max_chores ≤ length lent) (enough : max_chores ≤ length numbers) (fits : scratch_size ≤ length scratch) where
+module _ {s lent numbers scratch o p c : List ℕ} {out : Result ShareOut Refusal} (A : Allocated s lent numbers scratch o p c out) (many : max_chores ≤ length lent) (enough : max_chores ≤ length numbers) (fits : scratch_size ≤ length scratch) where
   left : Left s lent scratch o p c out
   left = by_same (sheet_refusal s) 0 shared_out turned_down
     where
@@ -64,7 +66,7 @@ module _ {s lent numbers scratch o p c : List ℕ} {out : ShareOut} (A : Allocat
           }
 
 -- the share-out over the rest of the owners
-module _ {s owners prices scratch numbers o p c : List ℕ} {first : ℕ} {out : ShareOut}
+module _ {s owners prices scratch numbers o p c : List ℕ} {first : ℕ} {out : Result ShareOut Refusal}
     (R : Room first owners prices scratch numbers)
     (A : Allocated s (take (length owners - first) (drop first owners)) numbers scratch o p c out)
   where

@@ -1,8 +1,9 @@
 -- What holds when the first j sheets of a book have passed: the invariant of the loop over them.
-use Rattle.std.specs.Prelude.{ℕ, ◌*◌, ◌≤◌, cond, List, ◌++◌, ◌≡◌, ltb, length, drop}
+use Rattle.std.specs.Prelude.{ℕ, ◌*◌, ◌≤◌, cond, List, ◌++◌, Option, Result, ◌≡◌, ltb, length, drop}
 use Rattle.finite.specs.Sums.{sum_to}
+use Rattle.model.specs.declared.Refusal.{Refusal}
 use Rattle.model.specs.declared.Tally.{Tally}
-use Rattle.model.specs.declared.SheetEntry.{SheetEntry}
+use Rattle.model.specs.declared.SheetShare.{SheetShare}
 use Rattle.model.specs.Limits.{max_sheets}
 use Rattle.model.specs.Contents.{sheet_count, sheet_of}
 use Rattle.model.specs.Algorithm.{State}
@@ -27,7 +28,7 @@ module _ (book : List ℕ) where
   unfoldable pub long_after : ℕ → (State → List ℕ) → ℕ → List ℕ → List ℕ
   long_after width written j lent = stretches book (finals_of book) written j ++ drop (width * first_entry book j) lent
 
-  pub record Passed (lent_owners lent_prices lent_scratch owners prices scratch : List ℕ) (sheets : List SheetEntry) (total : Tally) (first j : ℕ) : Type 0 where
+  pub record Passed (lent_owners lent_prices lent_scratch owners prices scratch : List ℕ) (sheets : List (Option (Result SheetShare Refusal))) (total : Tally) (first j : ℕ) : Type 0 where
     pub within : j ≤ sheet_count book
     pub first_free : first ≡ first_entry book j
     pub size : length sheets ≡ max_sheets

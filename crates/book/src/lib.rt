@@ -4,43 +4,33 @@
 
 mod refusal;
 
-ghost use Rattle.std.specs.Prelude.{◌≡◌};
+ghost use Rattle.std.specs.Prelude.{Some, ◌≡◌};
 ghost use Rattle.model.specs.Replies.{sheet_reply};
 ghost use Rattle.cmodel.specs.Promises.{BookInBytes};
 ghost use Rattle.book.specs.Said.{placed};
-ghost use Rattle.book.specs.Steps.{no_entries, Answered, Taken, Room, RestShared, Fine, SharedInBytes, TurnedDown};
+ghost use Rattle.book.specs.Steps.{Answered, Taken, Room, RestShared, Fine, SharedInBytes};
 
-fn no_sheets() -> [model::SheetEntry; model::MAX_SHEETS]
-    ensures { result ≡ no_entries }
-{
-    let none = model::SheetEntry {
-        result: model::SheetResult::Absent,
-    };
-    [none; model::MAX_SHEETS]
-}
+use model::{BookResult, Refusal, ShareOut, SheetShare};
 
 // What the book's results say of a sheet whose entries would start at `first`.
-fn entry(out: model::ShareOut, first: usize) -> model::SheetEntry
-    ensures { sheet_reply result.result ≡ placed first out }
+fn entry(answer: Result<ShareOut, Refusal>, first: usize) -> Result<SheetShare, Refusal>
+    ensures { sheet_reply (Some result) ≡ placed first answer }
 {
-    match out {
-        model::ShareOut::Refused(number) => model::SheetEntry {
-            result: model::SheetResult::Refused(number),
-        },
-        model::ShareOut::Shared { moves, cuts } => model::SheetEntry {
-            result: model::SheetResult::Shared { moves, cuts, first },
-        },
-    }
+    answer.map(|out| SheetShare {
+        moves: out.moves,
+        cuts: out.cuts,
+        first,
+    })
 }
 
 // How many entries a sheet takes. A refused one may lack the bytes that say its chores.
-fn entries(sheet: &[u8], out: model::ShareOut) -> usize
-    requires { Answered sheet.now out }
-    ensures { Taken sheet.now out result }
+fn entries(sheet: &[u8], answer: Result<ShareOut, Refusal>) -> usize
+    requires { Answered sheet.now answer }
+    ensures { Taken sheet.now answer result }
 {
-    match out {
-        model::ShareOut::Refused(_) => 0,
-        model::ShareOut::Shared { moves: _, cuts: _ } => sheet::chores(sheet),
+    match answer {
+        Ok(_) => sheet::chores(sheet),
+        Err(_) => 0,
     }
 }
 
@@ -52,15 +42,15 @@ fn share_rest(
     prices: &mut [u8],
     scratch: &mut [u8],
     numbers: &mut [u32],
-) -> model::ShareOut
+) -> Result<ShareOut, Refusal>
     requires { Room first owners.old prices.old scratch.old numbers.old }
     ensures { RestShared sheet.now first owners.old prices.old scratch.old owners.new prices.new scratch.new result }
 {
-    let out = allocation::allocate(sheet, &mut owners[first..], numbers, scratch);
-    let m = entries(sheet, out);
+    let answer = allocation::allocate(sheet, &mut owners[first..], numbers, scratch);
+    let m = entries(sheet, answer);
     let start = pricebytes::SIZE * first;
     pricebytes::write_prices(numbers, m, &mut prices[start..]);
-    out
+    answer
 }
 
 // The sheets one after the other; `first` is the first entry that is free.
@@ -70,39 +60,23 @@ fn share_sheets(
     prices: &mut [u8],
     scratch: &mut [u8],
     numbers: &mut [u32],
-) -> model::BookResult
+) -> BookResult
     requires { Fine book.now owners.old prices.old scratch.old numbers.old }
     ensures { SharedInBytes book.now owners.old prices.old scratch.old owners.new prices.new scratch.new result }
 {
     let k = contents::count(book);
-    let mut sheets = no_sheets();
+    let mut sheets = [None; model::MAX_SHEETS];
     let mut total = tally::none();
     let mut first = 0;
-    let mut j = 0;
-    while j < k {
+    for j in 0..k {
         let sheet = contents::sheet_at(book, j);
-        let out = share_rest(sheet, first, owners, prices, scratch, numbers);
-        sheets[j] = entry(out, first);
-        total = tally::tallied(total, out);
-        first += entries(sheet, out);
-        j += 1;
+        let answer = share_rest(sheet, first, owners, prices, scratch, numbers);
+        sheets[j] = Some(entry(answer, first));
+        total = tally::tallied(total, answer);
+        first += entries(sheet, answer);
     }
-    model::BookResult {
-        refusal: 0,
+    BookResult {
         count: k as u8,
-        sheets,
-        tally: total,
-    }
-}
-
-fn turned_down(refusal: u8) -> model::BookResult
-    ensures { TurnedDown refusal result }
-{
-    let sheets = no_sheets();
-    let total = tally::none();
-    model::BookResult {
-        refusal,
-        count: 0,
         sheets,
         tally: total,
     }
@@ -114,15 +88,12 @@ pub fn allocate_book(
     owners: &mut [u8],
     prices: &mut [u8],
     scratch: &mut [u8],
-) -> model::BookResult
+) -> Result<BookResult, Refusal>
     ensures { BookInBytes book.now owners.old prices.old scratch.old owners.new prices.new scratch.new result }
 {
     let places = prices.len() / pricebytes::SIZE;
-    let number = refusal::book_refusal(book, owners.len(), places, scratch.len());
-    if number != 0 {
-        return turned_down(number);
-    }
-    totals::clear(scratch);
-    let mut numbers = totals::no_prices();
-    share_sheets(book, owners, prices, scratch, &mut numbers)
+    refusal::admit(book, owners.len(), places, scratch.len())?;
+    scratch.fill(0);
+    let mut numbers = [0; model::MAX_CHORES];
+    Ok(share_sheets(book, owners, prices, scratch, &mut numbers))
 }

@@ -1,15 +1,16 @@
-// The number that a book is turned down with.
+// What a book is turned down for.
 ghost use Rattle.std.specs.Prelude.{◌≡◌};
+ghost use Rattle.model.specs.RefusalNumbers.{number_of};
 ghost use Rattle.model.specs.Refusals.{book_refusal};
 
-use sheet::{lent_refusal, or_else};
+use model::Refusal;
+use sheet::admit_lent;
 
-// 0 for a book that is not turned down.
-pub fn book_refusal(book: &[u8], owners: usize, prices: usize, scratch: usize) -> u8
-    ensures { result ≡ book_refusal book.now owners prices scratch }
+pub fn admit(book: &[u8], owners: usize, prices: usize, scratch: usize) -> Result<(), Refusal>
+    ensures { number_of result ≡ book_refusal book.now owners prices scratch }
 {
-    let refusal = contents::contents_refusal(book);
-    let refusal = or_else(refusal, lent_refusal(model::BOOK_ENTRIES, owners));
-    let refusal = or_else(refusal, lent_refusal(model::BOOK_ENTRIES, prices));
-    or_else(refusal, lent_refusal(model::SCRATCH_SIZE, scratch))
+    contents::admit_book(book)?;
+    admit_lent(model::BOOK_ENTRIES, owners)?;
+    admit_lent(model::BOOK_ENTRIES, prices)?;
+    admit_lent(model::SCRATCH_SIZE, scratch)
 }

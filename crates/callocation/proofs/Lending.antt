@@ -9,6 +9,8 @@ use lib.Seq.{get_or-take, length-take-le, take-append-le, take_at, drop_at}
 use borrow.Author.Tests.{eq-eqb, ne_eqb}
 use Rattle.finite.proofs.Tests.{cond_true, cond_false}
 use Rattle.finite.proofs.Below.{by_same}
+use Rattle.std.specs.Prelude.{Result}
+use Rattle.model.specs.declared.Refusal.{Refusal}
 use Rattle.model.specs.declared.ShareOut.{ShareOut}
 use Rattle.model.specs.Limits.{max_chores}
 use Rattle.model.specs.Sheet.{chores_of}
@@ -37,7 +39,7 @@ module _ (s : List ℕ) (owners scratch : ℕ) where
       (λ h. or_else_first _ h ∙ sym (or_else_first _ h))
 
 -- the number that is returned is the refusal
-pub answered : {s owners prices scratch owners' prices' scratch' : List ℕ} {r : ShareOut} → Allocated s owners prices scratch owners' prices' scratch' r → refusal_in (share_out_reply r) ≡ allocate_refusal s (length owners) (length prices) (length scratch)
+pub answered : {s owners prices scratch owners' prices' scratch' : List ℕ} {r : Result ShareOut Refusal} → Allocated s owners prices scratch owners' prices' scratch' r → refusal_in (share_out_reply r) ≡ allocate_refusal s (length owners) (length prices) (length scratch)
 answered {s} {owners} {prices} {scratch} a =
     by_same (allocate_refusal s (length owners) (length prices) (length scratch)) 0
     (λ e. ap refusal_in (a.not_refused e).answer ∙ sym e)
@@ -53,7 +55,7 @@ pub record Lent (bytes xs xs' rest : List ℕ) : Type 0 where
 pub first_lent : {bytes back : List ℕ} (all : List ℕ) {k : ℕ} → k ≡ min (length bytes / 4) max_chores → min (length bytes / 4) max_chores ≤ length all → length back ≡ length (take k all) → ((i : ℕ) → get_or (back ++ drop k all) i 0 < 2 ^ 32) → Lent bytes (take k all) back (drop k all)
 first_lent all e many same fits = record { short = simp length-take (omega arith); back = same; fits = fits }
 
-module _ {s owners scratch owners' scratch' bytes xs xs' rest : List ℕ} {answer : ShareOut} (L : Lent bytes xs xs' rest) (a : Allocated s owners xs scratch owners' xs' scratch' answer) where
+module _ {s owners scratch owners' scratch' bytes xs xs' rest : List ℕ} {answer : Result ShareOut Refusal} (L : Lent bytes xs xs' rest) (a : Allocated s owners xs scratch owners' xs' scratch' answer) where
   -- all prices would have been turned down alike
   whole_list : allocate_refusal s (length owners) (length xs) (length scratch) ≡ allocate_refusal s (length owners) (length (prices_in bytes)) (length scratch)
   whole_list = same_refusal s (length owners) (length scratch) (length (prices_in bytes)) (rw (prices_count bytes) L.short)

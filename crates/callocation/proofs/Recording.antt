@@ -7,6 +7,8 @@ use lib.ListN.{length}
 use borrow.Author.Tests.{ne_eqb}
 use Rattle.finite.proofs.Tests.{cond_false}
 use Rattle.finite.proofs.Below.{by_same}
+use Rattle.std.specs.Prelude.{Result}
+use Rattle.model.specs.declared.Refusal.{Refusal}
 use Rattle.model.specs.declared.ShareOut.{ShareOut}
 use Rattle.model.specs.Refusals.{◌or_else◌, record_refusal, recorded_refusal}
 use Rattle.model.specs.Replies.{share_out_reply}
@@ -19,7 +21,7 @@ use Rattle.cmodel.specs.Promises.{RecordedInC}
 use Rattle.callocation.specs.Telling.{Tellable, ToldOut}
 use Rattle.callocation.proofs.Lending.{same_refusal, Lent, tellable, told_in_c}
 
-module _ {s owners scratch lent owners' scratch' lent' bytes xs xs' rest : List ℕ} {answer : ShareOut} (L : Lent bytes xs xs' rest) (R : Recorded s owners xs scratch lent owners' xs' scratch' lent' answer) where
+module _ {s owners scratch lent owners' scratch' lent' bytes xs xs' rest : List ℕ} {answer : Result ShareOut Refusal} (L : Lent bytes xs xs' rest) (R : Recorded s owners xs scratch lent owners' xs' scratch' lent' answer) where
   abbrev refusal : ℕ → ℕ
   refusal prices =
       recorded_refusal s (length owners) prices (length scratch) (length R.moves) (length lent)

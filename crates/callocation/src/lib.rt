@@ -3,30 +3,16 @@
 
 ghost use Rattle.std.specs.Prelude.{◌/◌, ◌≤◌, min, ◌≡◌, length};
 ghost use Rattle.model.specs.Limits.{max_chores};
-ghost use Rattle.cmodel.specs.Numbers.{Told};
 ghost use Rattle.cmodel.specs.Promises.{AllocatedInC, RecordedInC};
 ghost use Rattle.callocation.specs.Telling.{Tellable, ToldOut};
 
-use model::ShareOut;
+use model::{Refusal, ShareOut};
 
-// The refusal number or 0. What is lent is written only where nothing was refused.
-fn told(answer: ShareOut, moves: &mut u64, cuts: &mut u8) -> u8
-    ensures { Told answer moves.old cuts.old moves.new cuts.new result }
-{
-    match answer {
-        ShareOut::Refused(k) => k,
-        ShareOut::Shared { moves: m, cuts: c } => {
-            *moves = m;
-            *cuts = c;
-            0
-        }
-    }
-}
-
-// An answer, and the prices that it left in `numbers`, as C gets them.
+// An answer, and the prices that it left in `numbers`, as C gets them: the refusal number or 0. What is lent is written only where nothing was
+// refused.
 fn told_out(
     sheet: &[u8],
-    answer: ShareOut,
+    answer: Result<ShareOut, Refusal>,
     numbers: &[u32],
     prices: &mut [u8],
     moves: &mut u64,
@@ -35,13 +21,15 @@ fn told_out(
     requires { Tellable sheet.now answer numbers.now prices.old }
     ensures { ToldOut sheet.now answer numbers.now prices.old prices.new moves.old cuts.old moves.new cuts.new result }
 {
-    let refusal = told(answer, moves, cuts);
-    if refusal != 0 {
-        return refusal;
+    match answer {
+        Ok(out) => {
+            *moves = out.moves;
+            *cuts = out.cuts;
+            pricebytes::write_prices(numbers, sheet::chores(sheet), prices);
+            0
+        }
+        Err(refusal) => u8::from(refusal),
     }
-    let m = sheet::chores(sheet);
-    pricebytes::write_prices(numbers, m, prices);
-    0
 }
 
 // As many numbers are lent as there are prices, but no sheet has more than MAX_CHORES chores.
@@ -53,13 +41,6 @@ fn lent_for(bytes: usize) -> usize
 
 // A list for so many prices is cleared in less time than one for MAX_CHORES.
 const FEW: usize = 200;
-
-// Only its length counts.
-fn for_few() -> [u32; FEW]
-    ensures { length result ≡ 200 }
-{
-    [0; FEW]
-}
 
 // `lent` is for the prices as numbers.
 fn allocate_with(
@@ -91,10 +72,10 @@ pub fn allocate(
     ensures { AllocatedInC sheet.now owners.old prices.old scratch.old owners.new prices.new scratch.new moves.old cuts.old moves.new cuts.new result }
 {
     if lent_for(prices.len()) <= FEW {
-        let mut lent = for_few();
+        let mut lent = [0; FEW];
         return allocate_with(sheet, owners, prices, scratch, &mut lent, moves, cuts);
     }
-    let mut lent = totals::no_prices();
+    let mut lent = [0; model::MAX_CHORES];
     allocate_with(sheet, owners, prices, scratch, &mut lent, moves, cuts)
 }
 
@@ -129,7 +110,7 @@ pub fn allocate_recorded(
 ) -> u8
     ensures { RecordedInC sheet.now owners.old prices.old scratch.old «record».old owners.new prices.new scratch.new «record».new moves.old cuts.old moves.new cuts.new result }
 {
-    let mut lent = totals::no_prices();
+    let mut lent = [0; model::MAX_CHORES];
     allocate_recorded_with(
         sheet, owners, prices, scratch, record, &mut lent, moves, cuts,
     )

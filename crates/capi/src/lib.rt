@@ -122,5 +122,5 @@ pub extern "C" fn shares_measures(sheet: &[u8], measures: &mut [u32; model::MAX_
 pub extern "C" fn shares_measured_list(sheet: &[u8], owners: &mut [u8]) -> u8
     ensures { MeasuredList sheet.now owners.old owners.new result }
 {
-    measuredlist::measured_list(sheet, owners)
+    model::number_of(measuredlist::measured_list(sheet, owners))
 }

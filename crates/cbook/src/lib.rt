@@ -17,10 +17,11 @@ pub fn allocate_book(
 ) -> u8
     ensures { BookAllocatedInC book.now owners.old prices.old scratch.old owners.new prices.new scratch.new refusals.old moves.old cuts.old firsts.old tally.old refusals.new moves.new cuts.new firsts.new tally.new result }
 {
-    let answer = book::allocate_book(book, owners, prices, scratch);
-    if answer.refusal != 0 {
-        return answer.refusal;
+    match book::allocate_book(book, owners, prices, scratch) {
+        Ok(shared) => {
+            cresults::tell(&shared, refusals, moves, cuts, firsts, tally);
+            0
+        }
+        Err(refusal) => u8::from(refusal),
     }
-    cresults::tell(answer, refusals, moves, cuts, firsts, tally);
-    0
 }

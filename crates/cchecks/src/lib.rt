@@ -2,29 +2,26 @@
 #![tactic(auto)]
 
 ghost use Rattle.std.specs.Prelude.{◌≡◌, ◌+◌, ◌*◌, length};
-ghost use Rattle.model.specs.Limits.{max_chores};
 ghost use Rattle.model.specs.Replies.{list_reply, price_reply};
 ghost use Rattle.cmodel.specs.Numbers.{verdict_number};
 ghost use Rattle.cmodel.specs.Promises.{ListCheckedInC, PricesCheckedInC};
-ghost use Rattle.cchecks.specs.Parts.{ForPrices};
+ghost use Rattle.cchecks.specs.Parts.{kind_number, ForPrices};
 
-use model::{ListVerdict, PriceVerdict};
+use model::{ListVerdict, PriceVerdict, Refusal};
 
-// The kinds of verdicts. No two are the same, so that a verdict tells by itself which check it is of.
-const HOLDS: u8 = 1;
+// The kinds of verdicts, by their numbers for C. No two are the same, so that a verdict tells by itself which check it is of.
+#[derive(Clone, Copy)]
+pub enum Kind {
+    Holds = 1,
+    Unfair = 2,
+    Wasteful = 3,
+    Accepted = 4,
+    OffPrice = 5,
+    PriceEnvy = 6,
+}
 
-const UNFAIR: u8 = 2;
-
-const WASTEFUL: u8 = 3;
-
-const ACCEPTED: u8 = 4;
-
-const OFF_PRICE: u8 = 5;
-
-const PRICE_ENVY: u8 = 6;
-
-fn verdict(kind: u8, values: u16) -> u32
-    ensures { result ≡ 65536 * values + 256 * kind }
+fn verdict(kind: Kind, values: u16) -> u32
+    ensures { result ≡ 65536 * values + 256 * kind_number kind }
 {
     65536 * (values as u32) + 256 * (kind as u32)
 }
@@ -32,28 +29,28 @@ fn verdict(kind: u8, values: u16) -> u32
 fn pair(i: u8, j: u8) -> u16
     ensures { result ≡ i + 256 * j }
 {
-    i as u16 + 256 * (j as u16)
+    u16::from_le_bytes([i, j])
 }
 
-fn list_number(v: ListVerdict) -> u32
-    ensures { result ≡ verdict_number (list_reply v) }
+fn list_number(answer: Result<ListVerdict, Refusal>) -> u32
+    ensures { result ≡ verdict_number (list_reply answer) }
 {
-    match v {
-        ListVerdict::Refused(k) => k as u32,
-        ListVerdict::Holds => verdict(HOLDS, 0),
-        ListVerdict::Unfair(i, j) => verdict(UNFAIR, pair(i, j)),
-        ListVerdict::Wasteful => verdict(WASTEFUL, 0),
+    match answer {
+        Ok(ListVerdict::Holds) => verdict(Kind::Holds, 0),
+        Ok(ListVerdict::Unfair(i, j)) => verdict(Kind::Unfair, pair(i, j)),
+        Ok(ListVerdict::Wasteful) => verdict(Kind::Wasteful, 0),
+        Err(refusal) => u8::from(refusal) as u32,
     }
 }
 
-fn price_number(v: PriceVerdict) -> u32
-    ensures { result ≡ verdict_number (price_reply v) }
+fn price_number(answer: Result<PriceVerdict, Refusal>) -> u32
+    ensures { result ≡ verdict_number (price_reply answer) }
 {
-    match v {
-        PriceVerdict::Refused(k) => k as u32,
-        PriceVerdict::OffPrice(c) => verdict(OFF_PRICE, c),
-        PriceVerdict::PriceEnvy(i, j) => verdict(PRICE_ENVY, pair(i, j)),
-        PriceVerdict::Accepted => verdict(ACCEPTED, 0),
+    match answer {
+        Ok(PriceVerdict::OffPrice(c)) => verdict(Kind::OffPrice, c),
+        Ok(PriceVerdict::PriceEnvy(i, j)) => verdict(Kind::PriceEnvy, pair(i, j)),
+        Ok(PriceVerdict::Accepted) => verdict(Kind::Accepted, 0),
+        Err(refusal) => u8::from(refusal) as u32,
     }
 }
 
@@ -61,13 +58,6 @@ pub fn check_list(sheet: &[u8], owners: &[u8], slack: u8, dominating: &mut [u8])
     ensures { ListCheckedInC sheet.now owners.now slack dominating.old dominating.new result }
 {
     list_number(listcheck::check_list(sheet, owners, slack, dominating))
-}
-
-// Only its length counts.
-fn for_chores_and_one() -> [u32; model::MAX_CHORES + 1]
-    ensures { length result ≡ max_chores + 1 }
-{
-    [0; model::MAX_CHORES + 1]
 }
 
 // `lent` is for the prices as numbers. A list of other than 4 m bytes goes on as one price too many: that is turned down in its place among
@@ -87,10 +77,9 @@ fn check_prices_with(sheet: &[u8], owners: &[u8], prices: &[u8], lent: &mut [u32
 pub fn check_prices(sheet: &[u8], owners: &[u8], prices: &[u8]) -> u32
     ensures { PricesCheckedInC sheet.now owners.now prices.now result }
 {
-    let refusal = sheet::sheet_refusal(sheet);
-    if refusal != 0 {
-        return refusal as u32;
+    if let Err(refusal) = sheet::admit_sheet(sheet) {
+        return u8::from(refusal) as u32;
     }
-    let mut lent = for_chores_and_one();
+    let mut lent = [0; model::MAX_CHORES + 1];
     check_prices_with(sheet, owners, prices, &mut lent)
 }

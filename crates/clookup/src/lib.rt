@@ -7,9 +7,8 @@ ghost use Rattle.cmodel.specs.Promises.{FoundInC};
 pub fn find_sheet(book: &[u8], sheet_number: usize, start: &mut usize, size: &mut usize) -> u8
     ensures { FoundInC book.now sheet_number start.old size.old start.new size.new result }
 {
-    let refusal = contents::lookup_refusal(book, sheet_number);
-    if refusal != 0 {
-        return refusal;
+    if let Err(refusal) = contents::admit_lookup(book, sheet_number) {
+        return u8::from(refusal);
     }
     let j = sheet_number - 1;
     *start = contents::start_of(book, j);

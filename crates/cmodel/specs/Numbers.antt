@@ -1,5 +1,6 @@
 -- Answers as numbers for C: a verdict is one number, the numbers of a share-out go into lent memory.
-use Rattle.std.specs.Prelude.{ℕ, ◌+◌, ◌*◌, ◌≡◌}
+use Rattle.std.specs.Prelude.{ℕ, ◌+◌, ◌*◌, Result, ◌≡◌}
+use Rattle.model.specs.declared.Refusal.{Refusal}
 use Rattle.model.specs.declared.ShareOut.{ShareOut}
 use Rattle.model.specs.Replies.{Reply, refused, shared, shared_at, joined, absent, holds, unfair, wasteful, off_price, price_envy, accepted, share_out_reply}
 
@@ -64,7 +65,7 @@ abbrev pub verdict_number : Reply → ℕ
 verdict_number reply = 65536 * (verdict_of reply).values + 256 * (verdict_of reply).kind + (verdict_of reply).refusal
 
 -- the answer for one sheet as C gets it
-pub record Told (answer : ShareOut) (moves cuts moves' cuts' r : ℕ) : Type 0 where
+pub record Told (answer : Result ShareOut Refusal) (moves cuts moves' cuts' r : ℕ) : Type 0 where
   pub returned : r ≡ refusal_in (share_out_reply answer)
   pub moves_at_exit : moves' ≡ moves_after (share_out_reply answer) moves
   pub cuts_at_exit : cuts' ≡ cuts_after (share_out_reply answer) cuts

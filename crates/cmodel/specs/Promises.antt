@@ -1,6 +1,7 @@
 -- What each call promises to C. Plain names are what is handed in, primed ones the same memory when the call returns, r what is returned.
-use Rattle.std.specs.Prelude.{ℕ, ◌+◌, ◌-◌, ◌*◌, ◌≤◌, ◌<◌, cond, not, List, [], ◌∷◌, ◌≡◌, eqb, length, get_or, take, drop}
+use Rattle.std.specs.Prelude.{ℕ, ◌+◌, ◌-◌, ◌*◌, ◌≤◌, ◌<◌, cond, not, List, [], ◌∷◌, Result, Ok, Err, ◌≡◌, eqb, length, get_or, take, drop}
 use Rattle.finite.specs.Lists.{tabulate}
+use Rattle.model.specs.declared.Refusal.{Refusal}
 use Rattle.model.specs.declared.ShareOut.{ShareOut}
 use Rattle.model.specs.declared.BookResult.{BookResult}
 use Rattle.model.specs.Limits.{max_slack}
@@ -10,6 +11,7 @@ use Rattle.model.specs.Strands.{joined_sheet, strand_of, strand_sheet}
 use Rattle.model.specs.Contents.{sheet_count, sheet_start, sheet_size, sheet_of}
 use Rattle.model.specs.Record.{Move}
 use Rattle.model.specs.Refusals.{◌or_else◌, ◌when◌, sheet_refusal, owners_refusal, prices_refusal, recorded_refusal, join_refusal, show_refusal, measures_refusal, lookup_refusal}
+use Rattle.model.specs.RefusalNumbers.{number_of}
 use Rattle.model.specs.Replies.{Reply, holds, wasteful, accepted}
 use Rattle.model.specs.Verdicts.{unless_refused, price_verdict, list_check}
 use Rattle.model.specs.Book.{first_entry}
@@ -45,7 +47,7 @@ pub record PricesCheckedInC (s owners prices : List ℕ) (r : ℕ) : Type 0 wher
 -- The share-out. The price list has a fourth as many entries as bytes.
 pub record AllocatedInC (s owners prices scratch owners' prices' scratch' : List ℕ) (moves cuts moves' cuts' r : ℕ) : Type 0 where
   -- the promise of the Rattle call, demand 3 in it, on the prices as numbers
-  pub answer : ShareOut
+  pub answer : Result ShareOut Refusal
   pub numbers : List ℕ
   pub allocated : Allocated s owners (prices_in prices) scratch owners' numbers scratch' answer
   -- the refusal number is returned, and moves and cuts are written where it is 0
@@ -109,25 +111,30 @@ pub record MeasuredInC (s lent lent' : List ℕ) (r : ℕ) : Type 0 where
   pub secured : r ≡ 0 → (i : ℕ) → i < agents_of s → Secured (as_marked s) i (get_or lent' i 0)
 
 -- A whole book: `allocate_book(book, owners, prices, scratch)`. The price list has a fourth as many entries as bytes.
-pub record BookInBytes (book owners prices scratch owners' prices' scratch' : List ℕ) (answer : BookResult) : Type 0 where
+pub record BookInBytes (book owners prices scratch owners' prices' scratch' : List ℕ) (answer : Result BookResult Refusal) : Type 0 where
   -- what is promised of a book, demand 3 in it, on the prices as numbers
   pub numbers : List ℕ
   pub allocated : BookAllocated book owners (prices_in prices) scratch owners' numbers scratch' answer
   -- the bytes of the accepted sheets' prices are written; all bytes after them are kept, and all of them with a refusal
-  pub bytes : prices' ≡ cond (eqb answer.refusal 0) (with_prices (first_entry book (sheet_count book)) numbers prices) prices
+  pub bytes : prices' ≡ cond (eqb (number_of answer) 0) (with_prices (first_entry book (sheet_count book)) numbers prices) prices
 
 -- One of the lists of results, which has an entry for each of 16 sheets: entry j as `told` has it of the reply for sheet j.
-unfoldable pub results : (Reply → ℕ → ℕ) → BookResult → List ℕ → List ℕ
+unfoldable pub results : (Reply → ℕ → ℕ) → Result BookResult Refusal → List ℕ → List ℕ
 results told answer before = tabulate (length before) (λ j. told (entry_at answer j) (get_or before j 0))
+
+-- The tally is moves and cuts, and with a refusal its memory keeps what it held.
+unfoldable pub tally_after : Result BookResult Refusal → List ℕ → List ℕ
+tally_after (Ok book) before = book.tally.moves ∷ book.tally.cuts ∷ []
+tally_after (Err refusal) before = before
 
 -- The whole book. Entries of sheets that the book does not have keep what they held, and with a refusal all of them do: their reply is `absent`.
 pub record BookAllocatedInC (book owners prices scratch owners' prices' scratch' refusals moves cuts firsts tally refusals' moves' cuts' firsts' tally' : List ℕ) (r : ℕ) : Type 0 where
-  pub answer : BookResult
+  pub answer : Result BookResult Refusal
   pub allocated : BookInBytes book owners prices scratch owners' prices' scratch' answer
-  pub returned : r ≡ answer.refusal
+  pub returned : r ≡ number_of answer
   -- of each sheet its refusal number, or 0 with its moves, cuts and first entry
   pub refusals_at_exit : refusals' ≡ results refusal_after answer refusals
   pub moves_at_exit : moves' ≡ results moves_after answer moves
   pub cuts_at_exit : cuts' ≡ results cuts_after answer cuts
   pub firsts_at_exit : firsts' ≡ results first_after answer firsts
-  pub tally_at_exit : tally' ≡ cond (eqb r 0) (answer.tally.moves ∷ answer.tally.cuts ∷ []) tally
+  pub tally_at_exit : tally' ≡ tally_after answer tally

@@ -42,13 +42,11 @@ fn bodies_fit(book: &[u8], k: usize) -> bool
     ensures { result ≡ bodies_fit book.now k }
 {
     let mut end = 1 + ENTRY * k;
-    let mut j = 0;
-    while j < k {
+    for j in 0..k {
         if start_of(book, j) != end {
             return false;
         }
         end += size_of(book, j);
-        j += 1;
     }
     end == book.len()
 }
@@ -96,8 +94,7 @@ pub fn sheet_at(book: &[u8], j: usize) -> &[u8]
 {
     let start = start_of(book, j);
     let size = size_of(book, j);
-    let rest = &book[start..];
-    &rest[0..size]
+    &book[start..start + size]
 }
 
 // The part of the book itself, not a copy of it.

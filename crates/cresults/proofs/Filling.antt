@@ -6,19 +6,21 @@ use mathlib.Core.Path.{◌≡◌, refl, sym, ap, ◌∙◌}
 use native.Mathlib.Nat.{le_of_eq}
 use native.Mathlib.Omega.{arith}
 use lib.ListN.{length, get_or, take, drop, set, drop_of_length-le}
-use lib.Seq.{drop-cons, get_or_at}
+use lib.Seq.{drop-cons, get_or_at, set-get_or}
+use Rattle.std.specs.Prelude.{Option, None, Result}
 use Rattle.finite.specs.Lists.{tabulate}
 use Rattle.finite.proofs.Lists.{over_next, tab_zero, tab_length, tab_at, tab_take}
+use Rattle.model.specs.declared.Refusal.{Refusal}
 use Rattle.model.specs.declared.BookResult.{BookResult}
-use Rattle.model.specs.declared.SheetEntry.{SheetEntry}
+use Rattle.model.specs.declared.SheetShare.{SheetShare}
 use Rattle.model.specs.Limits.{max_sheets}
-use Rattle.model.specs.Replies.{Reply, reply_at}
+use Rattle.model.specs.Replies.{Reply, sheet_reply, reply_at}
 use Rattle.model.specs.Promises.{entry_at}
 use Rattle.cmodel.specs.Numbers.{refusal_after, moves_after, cuts_after, first_after}
 use Rattle.cmodel.specs.Promises.{results}
-use Rattle.cresults.specs.Parts.{SheetTold, told_to, SheetsTold, Places, ResultsTold}
+use Rattle.cresults.specs.Parts.{told_to, SheetsTold, ResultsTold}
 
-module _ (told : Reply → ℕ → ℕ) (sheets : List SheetEntry) (before : List ℕ) where
+module _ (told : Reply → ℕ → ℕ) (sheets : List (Option (Result SheetShare Refusal))) (before : List ℕ) where
   abbrev entry : ℕ → ℕ
   entry j = told (reply_at sheets j) (get_or before j 0)
 
@@ -40,16 +42,21 @@ module _ (told : Reply → ℕ → ℕ) (sheets : List SheetEntry) (before : Lis
         let value : v ≡ get_or (tabulate (length before) entry) k 0 = h ∙ sym (tab_at entry k 0 l) in
         rw (is, e, ← now, ← then) (over_next (tabulate (length before) entry) before (rw (tab_length (length before) entry) l) l value)
 
-    to_next : {xs ys : List ℕ} → xs ≡ told_to k told sheets before → ys ≡ set xs k (told (reply_at sheets k) (get_or xs k 0)) → ys ≡ told_to (k + 1) told sheets before
-    to_next e is = written e is (ap (told (reply_at sheets k)) (ap (λ zs. get_or zs k 0) e ∙ to_come))
+    to_next : {xs ys : List ℕ} {reply : Reply} → xs ≡ told_to k told sheets before → reply_at sheets k ≡ reply → ys ≡ set xs k (told reply (get_or xs k 0)) → ys ≡ told_to (k + 1) told sheets before
+    to_next {reply = reply} e says is = written e is (ap (told reply) (ap (λ zs. get_or zs k 0) e ∙ to_come) ∙ ap (λ r. told r (get_or before k 0)) (sym says))
 
   to_all : length before ≡ max_sheets → told_to max_sheets told sheets before ≡ tabulate (length before) entry
   unfolding told_to
   to_all e = rw (e, drop_of_length-le before {i = max_sheets} (le_of_eq e), append-nil)
 
-module _ {sheets : List SheetEntry} {refusals moves cuts firsts : List ℕ} (places : Places sheets refusals moves cuts firsts) where
-  pub told_none : SheetsTold 0 sheets refusals moves cuts firsts refusals moves cuts firsts
-  told_none =
+-- a list that is not written is as it was at entry k too
+pub kept : {xs ys : List ℕ} (k : ℕ) → ys ≡ xs → ys ≡ set xs k (get_or xs k 0)
+kept {xs} k e = e ∙ sym (set-get_or xs k 0)
+
+-- the four lists, which have 16 entries each
+module _ {refusals moves cuts firsts : List ℕ} where
+  pub told_none : {sheets : List (Option (Result SheetShare Refusal))} → SheetsTold 0 sheets refusals moves cuts firsts refusals moves cuts firsts
+  told_none {sheets} =
       record {
         refusal = to_none _ sheets refusals;
         of_moves = to_none _ sheets moves;
@@ -57,27 +64,37 @@ module _ {sheets : List SheetEntry} {refusals moves cuts firsts : List ℕ} (pla
         first = to_none _ sheets firsts;
       }
 
-  -- one sheet more
-  pub told_next : {k : ℕ} {refusals' moves' cuts' firsts' refusals'' moves'' cuts'' firsts'' : List ℕ} → SheetsTold k sheets refusals moves cuts firsts refusals' moves' cuts' firsts' → k < max_sheets → SheetTold (reply_at sheets k) k refusals' moves' cuts' firsts' refusals'' moves'' cuts'' firsts'' → SheetsTold (k + 1) sheets refusals moves cuts firsts refusals'' moves'' cuts'' firsts''
-  told_next so_far l one =
-      record {
-        refusal = to_next refusal_after sheets refusals (omega (arith, l, places.refusal)) so_far.refusal one.refusal;
-        of_moves = to_next moves_after sheets moves (omega (arith, l, places.of_moves)) so_far.of_moves one.of_moves;
-        of_cuts = to_next cuts_after sheets cuts (omega (arith, l, places.of_cuts)) so_far.of_cuts one.of_cuts;
-        first = to_next first_after sheets firsts (omega (arith, l, places.first)) so_far.first one.first;
-      }
+  module _ (long_refusals : length refusals ≡ max_sheets) (long_moves : length moves ≡ max_sheets) (long_cuts : length cuts ≡ max_sheets) (long_firsts : length firsts ≡ max_sheets) where
+    -- one sheet more
+    pub told_next :
+        {sheets : List (Option (Result SheetShare Refusal))} {k : ℕ} {refusals' moves' cuts' firsts' refusals'' moves'' cuts'' firsts'' : List ℕ}
+        → SheetsTold k sheets refusals moves cuts firsts refusals' moves' cuts' firsts'
+        → k < max_sheets
+        → (entry : Option (Result SheetShare Refusal)) → get_or sheets k None ≡ entry
+        → refusals'' ≡ set refusals' k (refusal_after (sheet_reply entry) (get_or refusals' k 0))
+        → moves'' ≡ set moves' k (moves_after (sheet_reply entry) (get_or moves' k 0))
+        → cuts'' ≡ set cuts' k (cuts_after (sheet_reply entry) (get_or cuts' k 0))
+        → firsts'' ≡ set firsts' k (first_after (sheet_reply entry) (get_or firsts' k 0))
+        → SheetsTold (k + 1) sheets refusals moves cuts firsts refusals'' moves'' cuts'' firsts''
+    told_next {sheets} so_far l entry is of_refusals of_moves of_cuts of_firsts =
+        let says = ap sheet_reply is in
+        record {
+          refusal = to_next refusal_after sheets refusals (rw long_refusals l) so_far.refusal says of_refusals;
+          of_moves = to_next moves_after sheets moves (rw long_moves l) so_far.of_moves says of_moves;
+          of_cuts = to_next cuts_after sheets cuts (rw long_cuts l) so_far.of_cuts says of_cuts;
+          first = to_next first_after sheets firsts (rw long_firsts l) so_far.first says of_firsts;
+        }
 
--- all sheets, told in a copy of the list
-whole : (told : Reply → ℕ → ℕ) (answer : BookResult) {copy lent list : List ℕ} → list ≡ told_to max_sheets told answer.sheets copy → (copy ≡ lent) × (length copy ≡ max_sheets) → list ≡ results told answer lent
-unfolding results entry_at
-whole told answer {copy} e is = e ∙ to_all told answer.sheets copy is.1 ∙ ap (results told answer) is.0
-
-pub results_told : {answer : BookResult} {k m c f refusals moves cuts firsts refusals' moves' cuts' firsts' : List ℕ} → SheetsTold max_sheets answer.sheets k m c f refusals' moves' cuts' firsts' → (k ≡ refusals) × (length k ≡ max_sheets) → (m ≡ moves) × (length m ≡ max_sheets) → (c ≡ cuts) × (length c ≡ max_sheets) → (f ≡ firsts) × (length f ≡ max_sheets) → ResultsTold answer refusals moves cuts firsts refusals' moves' cuts' firsts' (answer.tally.moves ∷ answer.tally.cuts ∷ [])
-results_told {answer} told of_refusals of_moves of_cuts of_firsts =
-    record {
-      refusal = whole refusal_after answer told.refusal of_refusals;
-      of_moves = whole moves_after answer told.of_moves of_moves;
-      of_cuts = whole cuts_after answer told.of_cuts of_cuts;
-      first = whole first_after answer told.first of_firsts;
-      total = refl;
-    }
+    pub all_told :
+        {book : BookResult} {refusals' moves' cuts' firsts' : List ℕ}
+        → SheetsTold max_sheets book.sheets refusals moves cuts firsts refusals' moves' cuts' firsts'
+        → ResultsTold book refusals moves cuts firsts refusals' moves' cuts' firsts' (book.tally.moves ∷ book.tally.cuts ∷ [])
+    unfolding results entry_at
+    all_told {book} told =
+        record {
+          refusal = told.refusal ∙ to_all refusal_after book.sheets refusals long_refusals;
+          of_moves = told.of_moves ∙ to_all moves_after book.sheets moves long_moves;
+          of_cuts = told.of_cuts ∙ to_all cuts_after book.sheets cuts long_cuts;
+          first = told.first ∙ to_all first_after book.sheets firsts long_firsts;
+          total = refl;
+        }

@@ -8,57 +8,63 @@ use native.Mathlib.Omega.{arith}
 use lib.Dec.{eqb}
 use lib.ListN.{length, take, drop}
 use lib.Seq.{take_at}
-use borrow.Author.Tests.{eq-eqb, ne_eqb, eqb-true}
+use borrow.Author.Tests.{eq-eqb, ne_eqb, eqb-true, eqb-false}
 use Rattle.finite.specs.Packed.{bytes_for}
 use Rattle.finite.proofs.Tests.{by_test}
-use Rattle.model.specs.declared.Join.{Join}
+use Rattle.std.specs.Prelude.{Ok, Err}
+use Rattle.model.specs.declared.Refusal.{Refusal}
+use Rattle.model.specs.RefusalNumbers.{refusal_number}
 use Rattle.model.specs.Sheet.{header_size, chores_of, row_size, row_start, row_of}
 use Rattle.model.specs.Strands.{joined_sheet, strand_of, strand_sheet}
 use Rattle.model.specs.Refusals.{sheet_refusal, join_refusal, show_refusal}
-use Rattle.model.specs.Replies.{refused, joined, join_reply}
+use Rattle.model.specs.Replies.{refused, joined}
 use Rattle.model.specs.Verdicts.{unless_refused}
 use Rattle.model.specs.Promises.{joined_over, SheetsJoined}
 use Rattle.sheet.proofs.Marks.{row_inside}
 use Rattle.strands.proofs.Showing.{held-row, shown}
-use Rattle.cmodel.specs.Numbers.{refusal_in}
 use Rattle.cmodel.specs.Promises.{JoinedInC, ShownInC}
-use Rattle.cstrands.specs.Telling.{size_after, ToldSize}
 
--- an answer tells its refusal number, and the size where there is none
+-- an answer tells whether there is a refusal, and its number or the size
 module _ (k size : ℕ) where
-  refusal_told : (answer : Join) → join_reply answer ≡ unless_refused k (joined size) → refusal_in (join_reply answer) ≡ k
+  size_known : (s : ℕ) → joined s ≡ unless_refused k (joined size) → (k ≡ 0) × (s ≡ size)
   unfolding unless_refused
-  refusal_told answer e =
-      ap refusal_in e ∙ by_test (eqb k 0) (λ t. rw t (sym (eqb-true k 0 t))) (λ t. rw t refl)
-
-  size_told : (answer : Join) (before : ℕ) → join_reply answer ≡ unless_refused k (joined size) → size_after answer before ≡ cond (eqb k 0) size before
-  unfolding unless_refused
-  size_told (Join.Refused r) before e =
+  size_known s e =
       by_test (eqb k 0)
-      (λ t. let e' : refused r ≡ joined size = rw t at e in let z : ◌≡◌ {A = ℕ} 0 1 = cc in absurd (omega arith))
-      (λ t. sym (rw t))
-  size_told (Join.Joined s) before e =
-      by_test (eqb k 0)
-      (λ t. let e' : joined s ≡ joined size = rw t at e in let same : s ≡ size = cc in rw (t, same))
+      (λ t. let e' : joined s ≡ joined size = rw t at e in let same : s ≡ size = cc in (eqb-true k 0 t, same))
       (λ t. let e' : joined s ≡ refused k = rw t at e in let z : ◌≡◌ {A = ℕ} 0 1 = cc in absurd (omega arith))
 
-pub join_told : {first second lent lent' : List ℕ} {written written' r : ℕ} {answer : Join} → SheetsJoined first second lent lent' answer → ToldSize answer written written' r → JoinedInC first second lent lent' written written' r
-unfolding joined_over
-join_told {first} {second} {lent} {lent'} {written} {written'} {r} {answer} S T =
-    let whole = joined_sheet first second in
-    let told : r ≡ join_refusal first second (length lent) = T.returned ∙ refusal_told _ _ answer S.answer in
-    let size : written' ≡ cond (eqb r 0) (length whole) written = T.size_at_exit ∙ size_told _ _ answer written S.answer ∙ rw told in
-    record {
-      answer = told;
-      at_exit = S.at_exit;
-      written_at_exit = size;
-      taken = λ z.
-          let none : join_refusal first second (length lent) ≡ 0 = sym told ∙ z in
-          let made : lent' ≡ whole ++ drop (length whole) lent = S.at_exit ∙ rw (eq-eqb _ 0 none) in
-          let long : written' ≡ length whole = size ∙ rw (eq-eqb r 0 z) in
-          let front : take written' lent' ≡ whole = rw (long, made, take_at whole (drop (length whole) lent) (length whole) refl) in
-          ap sheet_refusal front ∙ S.taken none;
-    }
+  refusal_known : (r : ℕ) → refused r ≡ unless_refused k (joined size) → (k ≡ 0 → ⊥) × (r ≡ k)
+  unfolding unless_refused
+  refusal_known r e =
+      by_test (eqb k 0)
+      (λ t. let e' : refused r ≡ joined size = rw t at e in let z : ◌≡◌ {A = ℕ} 0 1 = cc in absurd (omega arith))
+      (λ t. let e' : refused r ≡ refused k = rw t at e in let same : r ≡ k = cc in (eqb-false k 0 t, same))
+
+module _ {first second lent lent' : List ℕ} {written : ℕ} where
+  pub told_size : {size : ℕ} → SheetsJoined first second lent lent' (Ok size) → JoinedInC first second lent lent' written size 0
+  unfolding joined_over
+  told_size S =
+      let whole = joined_sheet first second in
+      let known = size_known _ _ _ S.answer in
+      let made : lent' ≡ whole ++ drop (length whole) lent = S.at_exit ∙ rw (eq-eqb _ 0 known.0) in
+      let front : take (length whole) lent' ≡ whole = rw made (take_at whole (drop (length whole) lent) (length whole) refl) in
+      record {
+        answer = sym known.0;
+        at_exit = S.at_exit;
+        written_at_exit = known.1;
+        taken = λ _. rw (known.1, front) (S.taken known.0);
+      }
+
+  pub told_refusal : {refusal : Refusal} {k : ℕ} → SheetsJoined first second lent lent' (Err refusal) → k ≡ refusal_number refusal → JoinedInC first second lent lent' written written k
+  told_refusal S is =
+      let known = refusal_known _ _ _ S.answer in
+      let some : refusal_number _ ≡ 0 → ⊥ = λ z. known.0 (sym known.1 ∙ z) in
+      record {
+        answer = is ∙ known.1;
+        at_exit = S.at_exit;
+        written_at_exit = sym (rw (is, ne_eqb _ 0 some));
+        taken = λ z. absurd (some (sym is ∙ z));
+      }
 
 module _ (first second : List ℕ) (person chore : ℕ) where
   pub not_told : {strand start size r : ℕ} → r ≡ show_refusal first second person chore → (r ≡ 0 → ⊥) → ShownInC first second person chore strand start size strand start size r

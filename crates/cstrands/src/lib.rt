@@ -2,26 +2,18 @@
 #![tactic(auto)]
 
 ghost use Rattle.cmodel.specs.Promises.{JoinedInC, ShownInC};
-ghost use Rattle.cstrands.specs.Telling.{ToldSize};
 
 // The refusal number or 0. What is lent is written only where nothing was refused.
-fn told(answer: model::Join, written: &mut usize) -> u8
-    ensures { ToldSize answer written.old written.new result }
-{
-    match answer {
-        model::Join::Refused(refusal) => refusal,
-        model::Join::Joined { size } => {
-            *written = size;
-            0
-        }
-    }
-}
-
 pub fn join(first: &[u8], second: &[u8], joined: &mut [u8], written: &mut usize) -> u8
     ensures { JoinedInC first.now second.now joined.old joined.new written.old written.new result }
 {
-    let answer = strands::join_sheets(first, second, joined);
-    told(answer, written)
+    match strands::join_sheets(first, second, joined) {
+        Ok(size) => {
+            *written = size;
+            0
+        }
+        Err(refusal) => u8::from(refusal),
+    }
 }
 
 // The part itself cannot be returned to C, so the call tells where it lies.
@@ -36,9 +28,8 @@ pub fn show_marks<'a>(
 ) -> u8
     ensures { ShownInC first.now second.now person chore strand.old start.old size.old strand.new start.new size.new result }
 {
-    let refusal = strands::show_refusal(first, second, person, chore);
-    if refusal != 0 {
-        return refusal;
+    if let Err(refusal) = strands::admit_show(first, second, person, chore) {
+        return u8::from(refusal);
     }
     let held = strands::strand_sheet(first, second, chore);
     let m = sheet::chores(held);

@@ -3,7 +3,7 @@
 use Prim.Native.Nat.{ℕ, zero, suc, ◌+◌, ◌*◌, ◌≤◌, ◌<◌, min, max, zero-le}
 use mathlib.Core.Bool.{Bool, true, false, cond}
 use mathlib.Core.Path.{◌≡◌, refl, sym, ap, ap₂, ◌∙◌}
-use native.Mathlib.Nat.{le_refl, le_trans, add-zero, add-suc, mul-zero, mul-le-mul_left, max-eq_left, max-eq_right, min-eq_left, min-eq_right, le_of_lt}
+use native.Mathlib.Nat.{le_refl, le_trans, add-zero, add-suc, mul-zero, mul-le-mul_left, max-eq_left, max-eq_right, le_of_lt}
 use native.Mathlib.Numerals.{add-one}
 use native.Mathlib.Omega.{arith}
 use lib.Dec.{leb}
@@ -151,12 +151,6 @@ pub low_next : {k : ℕ} (f : ℕ → ℕ) → 0 < k → min_to (k + 1) f ≡ mi
 unfolding min_to
 low_next {k = zero} f l = none_below l
 low_next {k = suc k} f l = ap (λ n. min_to n f) (add-one (suc k))
-
-pub low_keep : {k : ℕ} (f : ℕ → ℕ) → 0 < k → min_to k f ≤ f k → min_to (k + 1) f ≡ min_to k f
-low_keep f l h = low_next f l ∙ min-eq_left h
-
-pub low_drop : {k : ℕ} (f : ℕ → ℕ) → 0 < k → f k ≤ min_to k f → min_to (k + 1) f ≡ f k
-low_drop f l h = low_next f l ∙ min-eq_right h
 
 pub low_under : {n : ℕ} (f : ℕ → ℕ) (i : ℕ) → i < n → min_to n f ≤ f i
 unfolding min_to

@@ -1,7 +1,7 @@
 -- What a search below n answers: the number that it found, or nothing.
 -- Assumes nothing.
 use Rattle.std.specs.Prelude.{ℕ, ◌<◌, ◌≤◌, Bool, true, false, ◌≡◌, cond, List, Option, Some, None, MatchOption, MatchBool, length, get_or, refl}
-use Rattle.std.proofs.Common.{arith, sym, ap}
+use Rattle.std.proofs.Common.{arith, sym, ap, ◌∙◌}
 use Rattle.std.specs.Iterator.{YieldsThen}
 use Rattle.std.specs.List.{FoldsTo, range_with_len, HoldsAt, AllWithin}
 use Rattle.std.specs.Fn.{Called, CalledAt}
@@ -16,15 +16,28 @@ use denote.Ref.{Bor}
 use denote.Param.Members.{Mut}
 use borrow.Author.Tests.{lt-ltb, le-ltb}
 use Rattle.finite.specs.Search.{any_below, all_below, first_below, if_below}
+use Rattle.finite.proofs.Below.{by_less}
 use Rattle.finite.proofs.Search.{all_intro, all_fails_intro, any_intro, any_none_intro, first_none_intro, first_unique}
 
 pub below_some : {n r : ℕ} → r < n → if_below n r ≡ Some r
 unfolding if_below
 below_some {n} {r} l = ap (λ b. cond b (Some r) None) (lt-ltb r n l)
 
-pub below_none : (n : ℕ) → if_below n n ≡ None
+below_past : {n r : ℕ} → n ≤ r → if_below n r ≡ None
 unfolding if_below
-below_none n = let le : n ≤ n = omega arith in ap (λ b. cond b (Some n) None) (le-ltb n n le)
+below_past {n} {r} l = ap (λ b. cond b (Some r) None) (le-ltb r n l)
+
+pub below_none : (n : ℕ) → if_below n n ≡ None
+below_none n = below_past (omega arith)
+
+-- and what the answer says of r
+pub found_is : {n r i : ℕ} → Some i ≡ if_below n r → (i ≡ r) × (r < n)
+found_is {n} {r} {i} e =
+    by_less r n (λ l. let q = e ∙ below_some l in (cc, l))
+    (λ l. let q = e ∙ below_past l in cc)
+
+pub found_none : {n r : ℕ} → None ≡ if_below n r → n ≤ r
+found_none {n} {r} e = by_less r n (λ l. let q = e ∙ below_some l in cc) (λ l. l)
 
 -- `(0..n).find(|&i| ..)`, whose closure computes the test t
 pub found_in : {F : Type 0} {g : Mut F (Bor ℕ × Unit {0}) Bool} (n : ℕ) (t : ℕ → Bool) (u : Range ℕ) (f : F) (r : Option ℕ)

@@ -9,7 +9,7 @@ use lib.ListN.{length, get_or, set, take, length-set}
 use lib.Seq.{get_or-set_other}
 use Rattle.finite.specs.Lists.{tabulate}
 use Rattle.finite.proofs.Tests.{by_cond, cond_true, cond_false}
-use Rattle.finite.proofs.Lists.{fill_zero, fill_next, fill_keep, fill_done, fill_at}
+use Rattle.finite.proofs.Lists.{fill_zero, fill_next, fill_keep, fill_at}
 
 -- the first k entries are rewritten, the others as they were
 pub record Rewritten (k : ℕ) (t : ℕ → Bool) (f : ℕ → ℕ) (old new : List ℕ) : Type 0 where
@@ -47,9 +47,6 @@ module _ {k : ℕ} {t : ℕ → Bool} {f : ℕ → ℕ} {old new : List ℕ} whe
   pub rewritten_keep : Rewritten k t f old new → k < length old → get_or old k 0 ≡ f k → Rewritten (k + 1) t f old new
   rewritten_keep s l e =
       stays s l (by_cond (λ v. get_or old k 0 ≡ v) (t k) (f k) (get_or old k 0) (λ _. e) (λ _. refl))
-
-pub rewritten_all : {n : ℕ} {t : ℕ → Bool} {f : ℕ → ℕ} {old new : List ℕ} → Rewritten n t f old new → length old ≡ n → new ≡ tabulate n (λ i. cond (t i) (f i) (get_or old i 0))
-rewritten_all {new = new} s e = fill_done _ new (s.sized ∙ e) s.front
 
 pub rewritten_at : {n : ℕ} {t : ℕ → Bool} {f : ℕ → ℕ} {old new : List ℕ} → Rewritten n t f old new → (i : ℕ) → i < n → get_or new i 0 ≡ cond (t i) (f i) (get_or old i 0)
 rewritten_at {new = new} s i l = fill_at _ new i 0 l s.front

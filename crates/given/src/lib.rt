@@ -21,7 +21,10 @@ fn admit_owners(owners: &[u8], n: usize, m: usize) -> Result<(), Refusal>
     if owners.len() != m {
         return Err(Refusal::OwnerCount);
     }
-    if !owners.iter().all(|&owner| !sheet::out_of_range(owner as usize, n)) {
+    if !owners
+        .iter()
+        .all(|&owner| !sheet::out_of_range(owner as usize, n))
+    {
         return Err(Refusal::Owner);
     }
     Ok(())

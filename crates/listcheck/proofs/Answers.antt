@@ -1,22 +1,23 @@
 -- Laws of the list check: its refusals, its answers, and what it leaves in the lent list.
 -- Assumes nothing.
-use Prim.Native.Nat.{ℕ, ◌+◌, ◌≤◌, ◌<◌}
+use Prim.Native.Nat.{ℕ, ◌+◌, ◌≤◌}
 use mathlib.Core.Bool.{true}
 use mathlib.Core.List.{List}
-use mathlib.Core.Path.{◌≡◌, refl, sym, ◌∙◌}
+use mathlib.Core.Path.{◌≡◌, refl, sym, ap, ◌∙◌}
 use native.Mathlib.Omega.{arith}
 use lib.ListN.{length}
 use borrow.Author.Tests.{not-false}
-use Rattle.finite.specs.Search.{first_below}
+use Rattle.finite.specs.Search.{any_below, first_below, if_below}
 use Rattle.model.specs.Limits.{max_slack}
 use Rattle.model.specs.Instance.{owner_of}
 use Rattle.model.specs.Sheet.{agents_of, chores_of, as_marked}
 use Rattle.model.specs.Slack.{even_up_to}
 use Rattle.model.specs.Refusals.{◌or_else◌, lent_refusal, slack_refusal, list_refusal}
+use Rattle.model.specs.RefusalNumbers.{refusal_number}
 use Rattle.model.specs.Replies.{refused, holds, unfair, wasteful, list_reply}
 use Rattle.model.specs.Verdicts.{envies, first_of_pair, second_of_pair, unless_refused, list_verdict, list_check}
 use Rattle.model.specs.Promises.{Dominating, ListChecked}
-use Rattle.std.specs.Prelude.{Result, Ok}
+use Rattle.std.specs.Prelude.{Option, Some, None, is_some, Result, Ok}
 use Rattle.model.specs.declared.Refusal.{Refusal}
 use Rattle.model.specs.declared.ListVerdict.{ListVerdict}
 use Rattle.model.proofs.Refusing.{Left}
@@ -27,6 +28,7 @@ use Rattle.welfare.proofs.Slack.{even_intro}
 use Rattle.welfare.proofs.Answered.{not_refused_lem, refused_told}
 use Rattle.welfare.proofs.ListVerdict.{verdict_unfair, verdict_larger}
 use Rattle.given.specs.Given.{given_refusal, Given}
+use Rattle.given.proofs.Found.{found_is, found_none, found_first, any_found}
 use Rattle.given.proofs.Given.{given}
 
 -- a list check that is not turned down
@@ -93,26 +95,34 @@ module _ {s owners : List ℕ} {slack : ℕ} {lent : List ℕ} {r : Result ListV
       }
 
   pub not_checked : Left r (list_refusal s owners slack (length lent)) → ListChecked s owners slack lent lent r
-  not_checked L = let p = L.positive in rw L.is (checked (check_refused s owners slack (length lent) L.number (λ z. omega (arith, z, p, L.number))) (refused_other _))
+  not_checked L =
+      let some : refusal_number L.refusal ≡ 0 → ⊥ = λ z. omega (arith, z, L.positive, L.number) in
+      checked (rw L.is (check_refused s owners slack (length lent) L.number some)) (rw L.is (refused_other _))
 
 pub checked_wasteful : {s owners : List ℕ} {slack : ℕ} {lent lent' : List ℕ} → wasteful ≡ list_check s owners slack (length lent) → Dominating s owners lent lent' → ListChecked s owners slack lent lent' (Ok ListVerdict.Wasteful)
 checked_wasteful e d = record { answer = e; shown = λ _. d; kept = λ h. absurd (h (sym e)); larger = λ h. absurd (holds_other (sym h)) }
 
 module _ {s owners : List ℕ} {n m : ℕ} (g : Given s owners n m) (slack : ℕ) where
   -- the first pair that envies
-  module _ {i : ℕ} (envier : i ≡ first_of_pair n (envies slack (as_marked s) (owner_of owners))) where
-    pub envious_pair : {j : ℕ} → i < n → j ≡ first_below n (envies slack (as_marked s) (owner_of owners) i) → FirstPair n (envies slack (as_marked s) (owner_of owners)) i j
-    unfolding second_of_pair
-    envious_pair l e =
+  module _ {i : ℕ} (envier : Some i ≡ if_below n (first_of_pair n (envies slack (as_marked s) (owner_of owners)))) {o : Option ℕ} (envied : o ≡ if_below n (first_below n (envies slack (as_marked s) (owner_of owners) i))) where
+    pub envied_some : is_some o ≡ true
+    unfolding first_of_pair
+    envied_some =
         let t = envies slack (as_marked s) (owner_of owners) in
-        let p = pair_found n t (rw envier at l) in
-        rw (e, envier) p
+        ap is_some envied ∙ any_found n (t i) ∙ (found_first (λ i. any_below n (λ j. t i j)) envier).passes
 
-    pub even : n ≤ i → even_up_to slack (as_marked s) (owner_of owners) ≡ true
-    unfolding as_marked envies
-    even l =
-        even_intro (as_marked s) (owner_of owners) slack
-        (λ i j a b. not-false _ (pair_none_elim n (envies slack (as_marked s) (owner_of owners)) (rw envier at l) i j (rw g.agents a) (rw g.agents b)))
+    pub envious_pair : {j : ℕ} → o ≡ Some j → FirstPair n (envies slack (as_marked s) (owner_of owners)) i j
+    unfolding second_of_pair
+    envious_pair e =
+        let t = envies slack (as_marked s) (owner_of owners) in
+        let first = found_is envier in
+        rw ((found_is (sym e ∙ envied)).0, first.0) (pair_found n t first.1)
+
+  pub even : None ≡ if_below n (first_of_pair n (envies slack (as_marked s) (owner_of owners))) → even_up_to slack (as_marked s) (owner_of owners) ≡ true
+  unfolding as_marked envies
+  even none =
+      even_intro (as_marked s) (owner_of owners) slack
+      (λ i j a b. not-false _ (pair_none_elim n (envies slack (as_marked s) (owner_of owners)) (found_none none) i j (rw g.agents a) (rw g.agents b)))
 
   pub unfair_verdict : {i j : ℕ} → FirstPair n (envies slack (as_marked s) (owner_of owners)) i j → list_verdict slack (as_marked s) (owner_of owners) ≡ unfair (i + 1) (j + 1)
   unfolding as_marked

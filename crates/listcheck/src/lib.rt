@@ -32,9 +32,8 @@ pub fn check_list(
     admit(sheet, owners, slack, dominating.len())?;
     let n = sheet::agents(sheet);
     let m = sheet::chores(sheet);
-    let i = evenness::first_envier(sheet, owners, n, m, slack);
-    if i < n {
-        let j = evenness::first_envied(sheet, owners, n, m, i, slack);
+    if let Some(i) = evenness::first_envier(sheet, owners, n, m, slack) {
+        let j = evenness::first_envied(sheet, owners, n, m, i, slack).unwrap();
         return Ok(ListVerdict::Unfair((i + 1) as u8, (j + 1) as u8));
     }
     if waste::show_waste(sheet, owners, n, m, dominating) {

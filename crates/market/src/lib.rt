@@ -1,4 +1,4 @@
-// Parts of Algorithm 1: the opening, sets of agents, what is read off sums and groups, the choices of 2a, the price cut.
+// Parts of Algorithm 1: sets of agents, what is read off sums and groups, the choices of 2a, the price cut.
 #![tactic(auto)]
 
 pub mod choices;

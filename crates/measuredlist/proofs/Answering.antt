@@ -3,7 +3,6 @@
 use Prim.Native.Nat.{ℕ, ◌-◌}
 use mathlib.Core.List.{List, ◌++◌}
 use mathlib.Core.Path.{◌≡◌, refl, sym, ap, ◌∙◌}
-use native.Mathlib.Nat.{le_trans}
 use native.Mathlib.Omega.{arith}
 use lib.Dec.{leb}
 use lib.ListN.{length, take, drop}
@@ -19,13 +18,7 @@ use Rattle.model.specs.Refusals.{measures_refusal, lent_refusal, measured_list_r
 use Rattle.model.specs.Promises.{Respecting, MeasuredList}
 use Rattle.model.proofs.Allocations.{allocation_picks, picks_allocation}
 use Rattle.sheet.proofs.OrElse.{or_else_stop, or_else_go}
-use Rattle.placing.specs.Sheets.{Within}
-use Rattle.measuredlist.specs.Improving.{Improved, Respected}
-
--- improved, a list within the measures is still within them
-pub respected : {s owners owners' : List ℕ} → Within s owners → Improved s owners owners' → Respected s owners'
-respected w i =
-    record { picks = i.picks; within = λ k l. le_trans (i.none_more k l) (w.each k l); undominated = i.undominated }
+use Rattle.measuredlist.specs.Improving.{Respected}
 
 module _ {s lent : List ℕ} {r : ℕ} where
   -- refused

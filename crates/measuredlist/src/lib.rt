@@ -15,11 +15,9 @@ fn improve(sheet: &[u8], n: usize, m: usize, owners: &mut [u8])
     requires { Given sheet.now owners.old n m }
     ensures { Improved sheet.now owners.old owners.new }
 {
-    let mut spare = totals::no_owners();
-    let mut found = waste::show_waste(sheet, owners, n, m, &mut spare);
-    while found {
-        waste::walk::copy_owners(&spare[0..m], owners);
-        found = waste::show_waste(sheet, owners, n, m, &mut spare);
+    let mut spare = [0; model::MAX_CHORES];
+    while waste::show_waste(sheet, owners, n, m, &mut spare) {
+        owners.copy_from_slice(&spare[..m]);
     }
 }
 

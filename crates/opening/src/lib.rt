@@ -1,9 +1,9 @@
 // The opening: who finds what easy in the share-out's reading, the first owners and prices.
 #![tactic(auto)]
 
-ghost use Rattle.std.specs.Prelude.{◌+◌, ◌*◌, ◌≤◌, ◌<◌, true, ◌≡◌, replicate};
+ghost use Rattle.std.specs.Prelude.{◌+◌, ◌*◌, ◌^◌, ◌≤◌, ◌<◌, true, ◌≡◌, replicate};
 ghost use Rattle.finite.specs.Bits.{SetOf};
-ghost use Rattle.model.specs.Limits.{max_agents, max_chores};
+ghost use Rattle.model.specs.Limits.{max_agents};
 ghost use Rattle.model.specs.Sheet.{all_difficult};
 ghost use Rattle.sheet.specs.Readers.{RowInSheet};
 ghost use Rattle.opening.specs.Opened.{OpenOn, ByteOf, Marked, OpensWith, OpenInto, Opened};
@@ -16,21 +16,12 @@ fn all_difficult_rows(sheet: &[u8], n: usize, m: usize) -> u32
     ensures { SetOf n result (all_difficult sheet.now) }
 {
     let mut w = 0u32;
-    let mut i = 0;
-    while i < n {
+    for i in 0..n {
         if sheet::all_difficult(sheet, m, i) {
             w = with(w, i);
         }
-        i += 1;
     }
     w
-}
-
-// Nobody, for every chore. Made in a function of its own, so that its entries are one value where it is used.
-pub fn no_likes() -> [u32; model::MAX_CHORES]
-    ensures { result ≡ replicate max_chores 0 }
-{
-    [0; model::MAX_CHORES]
 }
 
 // The first `count` marks of byte k of agent i's row: the agent joins those who mark the chore easy. Callers give 8 as it stands, so that the
@@ -40,11 +31,9 @@ fn add_byte(sheet: &[u8], m: usize, i: usize, k: usize, count: usize, likes: &mu
     ensures { Marked sheet.now i (8 * k + count) likes.new }
 {
     let byte = sheet::row_byte(sheet, m, i, k);
-    let mut j = 0;
-    while j < count {
+    for j in 0..count {
         let c = 8 * k + j;
         likes[c] = with_easy(likes[c], i, sheet::mark_in(byte, j));
-        j += 1;
     }
 }
 
@@ -53,13 +42,12 @@ fn add_row(sheet: &[u8], m: usize, i: usize, likes: &mut [u32])
     requires { RowInSheet sheet.now m i × Marked sheet.now i 0 likes.old }
     ensures { Marked sheet.now (i + 1) 0 likes.new }
 {
-    let mut k = 0;
-    while k < m / 8 {
+    let full = m / 8;
+    for k in 0..full {
         add_byte(sheet, m, i, k, 8, likes);
-        k += 1;
     }
-    if 8 * k < m {
-        add_byte(sheet, m, i, k, m - 8 * k, likes);
+    if 8 * full < m {
+        add_byte(sheet, m, i, full, m - 8 * full, likes);
     }
 }
 
@@ -68,10 +56,8 @@ fn add_rows(sheet: &[u8], n: usize, m: usize, likes: &mut [u32])
     requires { OpenOn sheet.now n m × (likes.old ≡ replicate m 0) }
     ensures { Marked sheet.now n 0 likes.new }
 {
-    let mut i = 0;
-    while i < n {
+    for i in 0..n {
         add_row(sheet, m, i, likes);
-        i += 1;
     }
 }
 
@@ -80,25 +66,18 @@ fn everyone(n: usize) -> u32
     requires { n ≤ max_agents }
     ensures { SetOf n result (λ i. true) }
 {
-    let mut w = 0u32;
-    let mut i = 0;
-    while i < n {
-        w = with(w, i);
-        i += 1;
-    }
-    w
+    (0..n).fold(0, with)
 }
 
 // The agent with whom a chore opens that these agents find easy: the lowest of them, or, where there is none, of all agents the one who holds the
 // fewest chores.
 fn opens_with(n: usize, easy: u32, held: &[u32; model::MAX_AGENTS]) -> usize
     requires { (0 < n) × (n ≤ max_agents) }
-    ensures { OpensWith n easy held.now result }
+    ensures { easy < 2 ^ n → OpensWith n easy held.now result }
 {
-    if easy == 0 {
-        totals::first_least(n, held)
-    } else {
-        lowest(easy, n)
+    match lowest(easy, n) {
+        Some(owner) => owner,
+        None => totals::first_least(n, held),
     }
 }
 
@@ -119,9 +98,8 @@ pub fn open(
     let all = all_difficult_rows(sheet, n, m);
     let anyone = everyone(n);
     add_rows(sheet, n, m, likes);
-    let mut held = totals::zeros();
-    let mut c = 0;
-    while c < m {
+    let mut held = [0; model::MAX_AGENTS];
+    for c in 0..m {
         let easy = likes[c] | all;
         let owner = opens_with(n, easy, &held);
         held[owner] += 1;
@@ -133,6 +111,5 @@ pub fn open(
             prices[c] = a * b;
             likes[c] = easy;
         }
-        c += 1;
     }
 }

@@ -1,4 +1,5 @@
 pub mod Filling
+pub mod Picking
 pub mod Placing
 pub mod Counting
 pub mod Queueing

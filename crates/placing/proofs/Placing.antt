@@ -11,12 +11,12 @@ use borrow.Author.Count.{below_more}
 use borrow.Author.Tests.{eq-eqb}
 use Rattle.finite.specs.Sums.{sum_to, count_to}
 use Rattle.finite.proofs.Tests.{by_cond}
-use Rattle.finite.proofs.Below.{none_below, by_less, by_same}
-use Rattle.finite.proofs.Sums.{sum_none, sum_change}
+use Rattle.finite.proofs.Below.{none_below, by_same}
+use Rattle.finite.proofs.Sums.{sum_change}
 use Rattle.finite.proofs.Counts.{count_point}
 use Rattle.model.specs.Limits.{max_agents}
 use Rattle.model.specs.Instance.{Instance, cost}
-use Rattle.placing.specs.Filling.{free, free_count, Roomy, PlacedTo, AllPlaced, HasPlace, PlaceSought}
+use Rattle.placing.specs.Filling.{free, free_count, Roomy, PlacedTo, AllPlaced, HasPlace}
 use Rattle.placing.proofs.Filling.{fewer_free, load_more, load_same, filling_on, owned_on, owned_here}
 
 -- no chore costs more than a difficult one
@@ -76,24 +76,3 @@ module _ {U : Instance} (unit : U.a ≡ 1) (heavy : 0 < U.b) (fits : U.n ≤ max
           picks = record { size = p.roomy.filling.size; positive = λ c l. p.owned c (rw e l); bounded = p.roomy.filling.bounded };
           each = λ i l. omega (arith, p.each i l);
         }
-
--- a place is looked for among n agents
-module _ {n k best most here : ℕ} {places : List ℕ} (s : PlaceSought n k places best most) (below : k < n) (told : (0 < here → 0 < get_or places k 0) × (0 < get_or places k 0 → 0 < here)) where
-  pub sought_here : most < here → PlaceSought n (k + 1) places k here
-  sought_here more =
-      record {
-        found = λ some. record { agent = below; place = told.0 some };
-        nobody = λ none. absurd (let no : ⊥ = omega arith in no);
-      }
-
-  pub sought_on : here ≤ most → PlaceSought n (k + 1) places best most
-  sought_on less =
-      record {
-        found = s.found;
-        nobody = λ none. below_more (λ i. get_or places i 0 ≡ 0) k (s.nobody none) (by_less 0 (get_or places k 0) (λ some. absurd (let no : ⊥ = omega (arith, told.1 some) in no)) (λ l. omega arith));
-      }
-
-pub sought_all : {n k best most : ℕ} {places : List ℕ} → PlaceSought n k places best most → k ≡ n → 0 < sum_to n (λ i. get_or places i 0) → HasPlace n best places
-sought_all {n} {k} {best} {most} {places} s all some =
-    by_less 0 most s.found
-    (λ l. absurd (let nothing = sum_none n (λ i b. s.nobody (omega arith) i (rw all b)) in let no : ⊥ = omega (arith, nothing) in no))

@@ -65,8 +65,3 @@ pub record AllPlaced (U : Instance) (places owners owners' : List ℕ) : Type 0 
 pub record HasPlace (n k : ℕ) (places : List ℕ) : Type 0 where
   pub agent : k < n
   pub place : 0 < get_or places k 0
-
--- of the first k agents `best` has a place if `most` is not 0, and nobody has one otherwise
-pub record PlaceSought (n k : ℕ) (places : List ℕ) (best most : ℕ) : Type 0 where
-  pub found : 0 < most → HasPlace n best places
-  pub nobody : most ≡ 0 → (i : ℕ) → i < k → get_or places i 0 ≡ 0

@@ -1,18 +1,14 @@
 -- Agents that wait and agents that have been served, as lists have it.
-use Rattle.std.specs.Prelude.{ℕ, ◌+◌, ◌*◌, ◌-◌, ◌/◌, ◌≤◌, ◌<◌, Bool, true, ◌⊎◌, List, ◌≡◌, leb, length, get_or, set}
-use Rattle.finite.specs.Sums.{count_to}
-use Rattle.model.specs.Limits.{max_agents, max_chores}
+use Rattle.std.specs.Prelude.{ℕ, ◌+◌, ◌*◌, ◌-◌, ◌/◌, ◌≤◌, ◌<◌, Bool, true, false, ◌⊎◌, List, ◌≡◌, length, get_or, set}
+use Rattle.model.specs.Limits.{max_agents}
 use Rattle.model.specs.Instance.{Instance}
 use Rattle.measures.proofs.Bearable.{easy_count}
 use Rattle.quotas.specs.Quotas.{Serving}
 use Rattle.placing.specs.Filling.{free_count, load, PartList, QuotaTaken, Roomy}
 
--- the entry of an agent that has been served, among those of agents that wait: these have how many chores they find easy
-abbrev pub served_entry : ℕ
-served_entry = max_chores + 1
-
-unfoldable pub waits : List ℕ → ℕ → Bool
-waits counts k = leb (get_or counts k 0) max_chores
+-- agent k waits, where a list has who does
+unfoldable pub waits : List Bool → ℕ → Bool
+waits waiting k = get_or waiting k false
 
 -- the first k agents have their numbers of easy chores
 pub record EasyCounted (U : Instance) (k : ℕ) (counts : List ℕ) : Type 0 where
@@ -29,15 +25,18 @@ pub record Served (U : Instance) (j measure left : ℕ) (places owners places' o
   pub placed : places' ≡ set places j mine
   pub taken : QuotaTaken U j (measure - U.b * mine) owners owners'
 
--- t agents have been served
-pub record Queue (U : Instance) (mu : ℕ → ℕ) (t left : ℕ) (counts places owners : List ℕ) : Type 0 where
-  pub within : t ≤ U.n
-  pub waiting : count_to U.n (waits counts) + t ≡ U.n
-  pub sized : length counts ≡ max_agents
-  pub counted : (k : ℕ) → k < U.n → waits counts k ≡ true → get_or counts k 0 ≡ easy_count U k
+-- of the agents who wait none finds fewer chores easy than agent j
+pub record NextAgent (n : ℕ) (counts : List ℕ) (waiting' : List Bool) (j : ℕ) : Type 0 where
+  pub agent : j < n
+  pub waiting : waits waiting' j ≡ true
+  pub fewest : (k : ℕ) → k < n → waits waiting' k ≡ true → get_or counts j 0 ≤ get_or counts k 0
+
+-- the agents who do not wait have been served
+pub record Queue (U : Instance) (mu : ℕ → ℕ) (left : ℕ) (waiting : List Bool) (places owners : List ℕ) : Type 0 where
+  pub sized : length waiting ≡ max_agents
   pub slots : length places ≡ max_agents
   pub filling : PartList U owners
-  pub serving : Serving U mu (waits counts) left (free_count U.m owners) (λ k. get_or places k 0) (load U owners)
+  pub serving : Serving U mu (waits waiting) left (free_count U.m owners) (λ k. get_or places k 0) (load U owners)
 
 -- Everybody has been served: what agent i has, and difficult chores in its places, fit what it can bear.
 pub record AllServed (U : Instance) (mu : ℕ → ℕ) (places owners : List ℕ) : Type 0 where

@@ -1,11 +1,12 @@
 -- Laws of writing prices over bytes.
 -- Assumes nothing.
-use Prim.Native.Nat.{ℕ, suc, ◌+◌, ◌*◌, ◌≤◌, ◌<◌}
+use Prim.Native.Nat.{ℕ, ◌+◌, ◌*◌, ◌≤◌, ◌<◌}
 use mathlib.Core.List.{List, [], ◌∷◌, ◌++◌, append_assoc}
 use mathlib.Core.Path.{◌≡◌, refl, sym, ap, ◌∙◌}
+use borrow.Rule.Slice.PartMut.{put_mid}
 use native.Mathlib.Numerals.{add-one}
 use native.Mathlib.Omega.{arith}
-use lib.ListN.{length, get_or, take, drop, set, length-append, length-drop}
+use lib.ListN.{length, get_or, take, drop, length-append, length-drop}
 use lib.Seq.{sets, sets-eq, take-suc, take_at, drop_at, drop-append-add, drop-drop, length-take-le}
 use Rattle.pricebytes.specs.PriceBytes.{four_bytes, bytes_of, with_prices}
 
@@ -23,12 +24,10 @@ pub bytes_one : (p : ℕ) → bytes_of (p ∷ []) ≡ four_bytes p
 unfolding bytes_of
 bytes_one p = refl
 
--- the four stores of one price
-pub four_stores : (bytes : List ℕ) (i v w x y : ℕ) → set (set (set (set bytes i v) (i + 1) w) (i + 2) x) (i + 3) y ≡ sets bytes i (v ∷ w ∷ x ∷ y ∷ [])
-four_stores bytes i v w x y =
-    let two : i + 2 ≡ suc (suc i) = omega arith in
-    let three : i + 3 ≡ suc (suc (suc i)) = omega arith in
-    rw (add-one i, two, three)
+-- some bytes written over those from i on
+pub put_over : (bytes vs : List ℕ) (i k : ℕ) → i + length vs ≤ length bytes → k ≡ length vs → put_mid i k bytes vs ≡ sets bytes i vs
+put_over bytes vs i k l e =
+    rw (e, drop-drop (length vs) i bytes) (sym (sets-eq vs bytes i l ∙ append_assoc (take i bytes) vs (drop (i + length vs) bytes)))
 
 module _ (ps bytes : List ℕ) where
   pub with_none : with_prices 0 ps bytes ≡ bytes

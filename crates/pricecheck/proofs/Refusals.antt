@@ -1,16 +1,11 @@
 -- The refusals of the price check, and what 0 means. Prices are entries from 1 to a limit, as owners are.
 -- Assumes nothing.
 use Prim.Native.Nat.{ℕ}
-use mathlib.Core.Bool.{true, false}
 use mathlib.Core.List.{List}
 use mathlib.Core.Path.{◌≡◌, sym, ◌∙◌}
 use native.Mathlib.Nat.{le_trans}
 use native.Mathlib.Omega.{arith}
-use lib.ListN.{length}
-use borrow.Author.Tests.{eq-eqb, ne_eqb}
-use Rattle.model.specs.Limits.{max_price}
 use Rattle.model.specs.Sheet.{agents_of, chores_of, easy_weight, difficult_weight}
-use Rattle.model.specs.Fairness.{entries_in_range}
 use Rattle.model.specs.Refusals.{prices_refusal, price_refusal}
 use Rattle.sheet.proofs.OrElse.{or_else_zero, or_else_assoc}
 use Rattle.sheet.proofs.Judged.{prices_picks}

@@ -1,6 +1,6 @@
--- What the answer of a search tells, and a search for the first pair that passes, by its first number and then by its second.
+-- A search for the first pair that passes, by its first number and then by its second.
 -- Assumes nothing.
-use Rattle.std.specs.Prelude.{ℕ, cond, ◌+◌, ◌≤◌, ◌<◌, Bool, true, false, ◌≡◌, Option, Some, None, MatchOption, IsTrue, option_map, refl}
+use Rattle.std.specs.Prelude.{ℕ, ◌+◌, ◌≤◌, ◌<◌, Bool, true, false, ◌≡◌, Option, Some, None, MatchOption, IsTrue, option_map, refl}
 use Rattle.std.proofs.Common.{arith, sym, ap, ◌∙◌}
 use Rattle.std.specs.Iterator.Runs.{Run, SomeRun, AllItemsGive, IsFirstToGive}
 use Rattle.std.specs.Fn.{Called}
@@ -11,13 +11,9 @@ use denote.Param.Members.{Mut}
 use borrow.Author.Tests.{lt-ltb, le-ltb}
 use Rattle.finite.specs.Search.{any_below, first_below, if_below}
 use Rattle.finite.proofs.Below.{by_less}
-use Rattle.finite.proofs.Search.{first_none_intro, first_unique, any_first}
-use Rattle.finite.proofs.Found.{below_some}
+use Rattle.finite.proofs.Search.{first_le, first_none_intro, first_unique, any_first}
+use Rattle.finite.proofs.Found.{below_some, below_none}
 use Rattle.model.specs.Verdicts.{first_of_pair, second_of_pair}
-
-below_past : {n r : ℕ} → n ≤ r → if_below n r ≡ None
-unfolding if_below
-below_past {n} {r} l = ap (λ b. cond b (Some r) None) (le-ltb r n l)
 
 as_is : {A : Type 0} (o : Option A) (x : A) → option_map (λ y. y) o ≡ Some x → o ≡ Some x
 as_is None x e = cc
@@ -56,13 +52,6 @@ found_map_in {F} {B} {g} n answer f r d calls = told r d.2
         let h = m.3 (λ a b q c. (calls a.0 b q c).0) in
         (m.0, omega (arith, few n p d.1, m.1), sym (calls m.0 (Some y) f (rw (at n p d.1 m.0 m.1) at h.0)).1, λ k l. sym (calls k None f (rw (at n p d.1 k (omega (arith, m.1))) at (h.1 k l))).1)
 
--- where a search ended, by its answer
-pub ended_some : {n r i : ℕ} → Some i ≡ if_below n r → (i < n) × (i ≡ r)
-ended_some {n} {r} {i} e = by_less r n (λ l. let h = below_some l in let at : i ≡ r = cc in (omega arith, at)) (λ l. let h = below_past l in cc)
-
-pub ended_none : {n r : ℕ} → None ≡ if_below n r → n ≤ r
-ended_none {n} {r} e = by_less r n (λ l. let h = below_some l in cc) (λ l. l)
-
 -- a first number that passes with some second, and the first of these; nothing where it passes with none
 abbrev pub pair_at : ℕ → (ℕ → ℕ → Bool) → ℕ → Option (ℕ × ℕ)
 pair_at n t i = option_map {U = ℕ × ℕ} (λ j. (i, j)) (if_below n (first_below n (t i)))
@@ -77,7 +66,10 @@ module _ (n : ℕ) (t : ℕ → ℕ → Bool) where
   some_at i e =
       by_less (first_below n (t i)) n
       (λ l. let h = ap (option_map {U = ℕ × ℕ} (λ j. (i, j))) (below_some l) in (l, cc))
-      (λ l. let h = ap (option_map {U = ℕ × ℕ} (λ j. (i, j))) (below_past l) in cc)
+      (λ l.
+      let all : first_below n (t i) ≡ n = omega (arith, first_le n (t i)) in
+      let h = ap (λ r. option_map {U = ℕ × ℕ} (λ j. (i, j)) (if_below n r)) all ∙ ap (option_map {U = ℕ × ℕ} (λ j. (i, j))) (below_none n) in
+      cc)
 
   -- a search for the second number of a pair, within a search for the first
   pub pair_in : (r : Option (ℕ × ℕ)) → MatchOption r ((i : ℕ) → i < n → pair_at n t i ≡ None) (λ y. (i : ℕ) × (i < n) × (pair_at n t i ≡ Some y) × ((k : ℕ) → k < i → pair_at n t k ≡ None)) → MatchOption r (first_of_pair n t ≡ n) (λ p. (p.0 < n) × (p.1 < n) × (p.0 ≡ first_of_pair n t) × (p.1 ≡ second_of_pair n t))

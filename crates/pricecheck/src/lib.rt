@@ -1,7 +1,7 @@
 // The price check: each chore is to be best for its owner, and nobody's price up to one above anybody's price sum.
 #![tactic(auto)]
 
-ghost use Rattle.std.specs.Prelude.{◌≡◌, ◌+◌, ◌*◌, ◌≤◌, max, cond, eqb, length, ◌<◌, IfSome, MatchOption};
+ghost use Rattle.std.specs.Prelude.{◌≡◌, ◌+◌, ◌*◌, ◌≤◌, ◌<◌, max, cond, eqb, length, IfSome, MatchOption};
 ghost use Rattle.finite.specs.Search.{if_below};
 ghost use Rattle.finite.specs.Sums.{max_to};
 ghost use Rattle.model.specs.Limits.{max_agents};
@@ -25,7 +25,10 @@ fn admit_prices(prices: &[u32], m: usize) -> Result<(), Refusal>
     if prices.len() != m {
         return Err(Refusal::Prices);
     }
-    if !prices.iter().all(|&price| !sheet::out_of_range(price as usize, model::MAX_PRICE as usize)) {
+    if !prices.iter().all(|&price| !sheet::out_of_range(
+        price as usize,
+        model::MAX_PRICE as usize,
+    )) {
         return Err(Refusal::Prices);
     }
     Ok(())
@@ -163,11 +166,7 @@ fn envy_verdict(owners: &[u8], prices: &[u32], n: usize) -> PriceVerdict
 }
 
 // Whether a list of owners, with prices, is accepted.
-pub fn check_prices(
-    sheet: &[u8],
-    owners: &[u8],
-    prices: &[u32],
-) -> Result<PriceVerdict, Refusal>
+pub fn check_prices(sheet: &[u8], owners: &[u8], prices: &[u32]) -> Result<PriceVerdict, Refusal>
     ensures { PricesChecked sheet.now owners.now prices.now result }
 {
     admit(sheet, owners, prices)?;

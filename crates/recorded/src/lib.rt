@@ -20,21 +20,21 @@ fn count_moves(sheet: &[u8]) -> u64
     ensures { result ≡ length (moves_for sheet.now) }
 {
     let m = sheet::chores(sheet);
-    let mut owners = totals::no_owners();
-    let mut prices = totals::no_prices();
-    let mut scratch = totals::no_scratch();
-    let mut unrecorded = [0u8; 0];
+    let mut owners = [0; model::MAX_CHORES];
+    let mut prices = [0; model::MAX_CHORES];
+    let mut scratch = [0; model::SCRATCH_SIZE];
     let counts = allocation::share(
         sheet,
-        &mut owners[0..m],
-        &mut prices[0..m],
+        &mut owners[..m],
+        &mut prices[..m],
         &mut scratch,
-        &mut unrecorded,
+        &mut [],
     );
     counts.moves
 }
 
 // No run takes more.
+#[tactic(auto, unfolding(model::specs::MostMoves::most_moves, model::specs::MostMoves::round_moves))]
 fn most_moves(sheet: &[u8]) -> u64
     requires { Valid sheet.now }
     ensures { result ≡ most_moves (agents_of sheet.now) (chores_of sheet.now) }

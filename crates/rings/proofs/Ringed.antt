@@ -247,8 +247,8 @@ module _ {I : Instance} {x p : ℕ → ℕ} {offers sums ups : List ℕ} {least 
           let d = due_found I x p S.some e in
           clash (lt-ltb _ _ d.giver_above) (calm_all (giver2b I x p) d.giver (within_more I x p S.some d.distance _ d.in_ring))
 
-      pub ringed_ended : {giver : ℕ} (takers : ℕ) → giver ≡ I.n → Searched I x p giver takers lent scratch
-      ringed_ended takers e =
+      pub ringed_ended : {giver : ℕ} → giver ≡ I.n → Searched I x p giver 0 lent scratch
+      ringed_ended e =
           record {
             limit = omega arith;
             due = λ h. absurd (omega arith);

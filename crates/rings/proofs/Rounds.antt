@@ -44,7 +44,6 @@ pub record AtRing (n : ℕ) (offers sums ups : List ℕ) (least from to first : 
 
 -- the loop over agents, since the scratch was as before the ring whose agents get the byte `further`
 pub record AtAgent (n : ℕ) (offers sums ups : List ℕ) (least from to further i end : ℕ) (before scratch : List ℕ) : Type 0 where
-  pub limit : i ≤ n
   pub ordered : to ≤ end
   pub filled : Filled n scratch end
   pub told : to < end → byte_at scratch to ≡ further
@@ -82,11 +81,11 @@ module _ {n : ℕ} {offers sums ups : List ℕ} {least : ℕ} where
           begun = λ I x p en S. rw (add-one t) ((whole I x p en S).ended ∙ ap length (line_next I.n (at_distance I x p) t));
         }
 
-    rounds_ended : from ≡ to → t ≤ n → {giver : ℕ} (takers : ℕ) → giver ≡ n → Answered n offers sums ups least giver takers lent before
-    rounds_ended none low takers q =
+    rounds_ended : from ≡ to → t ≤ n → Answered n offers sums ups least n 0 lent before
+    rounds_ended none low =
         record {
-          limit = omega arith;
-          searched = λ I x p en S. ringed_ended S (whole I x p en S) (R.begun I x p en S) none (rw en low) takers (q ∙ sym en);
+          limit = le_refl n;
+          searched = λ I x p en S. ringed_ended S (whole I x p en S) (R.begun I x p en S) none (rw en low) (sym en);
         }
 
     module _ {ring i end : ℕ} {scratch : List ℕ} (stands : SetOf n ring (stands_at before from to)) (l : i < n) (C : Come n offers sums ups least (suc t) i end lent scratch) where
@@ -118,7 +117,7 @@ module _ {n : ℕ} {offers sums ups : List ℕ} {least : ℕ} where
   module _ {from to first : ℕ} {start before : List ℕ} (R : AtRing n offers sums ups least from to first start before) where
     pub agent_first : (further : ℕ) → AtAgent n offers sums ups least from to further 0 to before before
     agent_first further =
-        record { limit = omega arith; ordered = le_refl to; filled = R.filled; told = λ l. absurd (omega arith); come = λ t e lent Q. come_first Q }
+        record { ordered = le_refl to; filled = R.filled; told = λ l. absurd (omega arith); come = λ t e lent Q. come_first Q }
 
     module _ (some : from < to) where
       -- distances are below n
@@ -139,7 +138,7 @@ module _ {n : ℕ} {offers sums ups : List ℕ} {least : ℕ} where
             rounds = λ lent T. let Q = R.rounds lent T in rounds_next Q (A.come R.t f lent Q);
           }
 
-    pub ring_last : to ≤ from → {lent : List ℕ} → Started n sums least lent start first → {giver : ℕ} (takers : ℕ) → giver ≡ n → Answered n offers sums ups least giver takers lent before
+    pub ring_last : to ≤ from → {lent : List ℕ} → Started n sums least lent start first → Answered n offers sums ups least n 0 lent before
     ring_last l {lent} T =
         let none : from ≡ to = omega (arith, R.ordered) in
         rounds_ended (R.rounds lent T) none (omega (arith, R.deep, filled_most R.filled))
@@ -148,7 +147,6 @@ module _ {n : ℕ} {offers sums ups : List ℕ} {least : ℕ} where
     agent_skip : in_next_ring offers ring scratch i ≡ false → AtAgent n offers sums ups least from to further (i + 1) end before scratch
     agent_skip e =
         record {
-          limit = omega arith;
           ordered = A.ordered;
           filled = A.filled;
           told = A.told;
@@ -184,7 +182,6 @@ module _ {n : ℕ} {offers sums ups : List ℕ} {least : ℕ} where
       pub agent_take : 0 < further → get_or ups i 0 ≤ least → AtAgent n offers sums ups least from to further (i + 1) (end + 1) before (set (set scratch i further) (max_agents + end) i)
       agent_take positive low =
           record {
-            limit = omega arith;
             ordered = omega (arith, A.ordered);
             filled = filled_take A.filled few l zero positive;
             told = still_told positive;

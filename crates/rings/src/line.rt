@@ -25,14 +25,12 @@ pub fn start(n: usize, sums: &[u32], least: u32, scratch: &mut [u8]) -> usize
     ensures { Started n sums.now least scratch.old scratch.new result }
 {
     let mut end = 0;
-    let mut i = 0;
-    while i < n {
+    for i in 0..n {
         scratch[i] = 0;
         if sums[i] == least {
             take_place(scratch, end, i, 1);
             end += 1;
         }
-        i += 1;
     }
     end
 }
@@ -51,10 +49,8 @@ pub fn ring(n: usize, scratch: &[u8], from: usize, to: usize) -> u32
     ensures { SetOf n result (stands_at scratch.now from to) }
 {
     let mut w = 0u32;
-    let mut k = from;
-    while k < to {
-        w = with(w, scratch[LINE + k] as usize);
-        k += 1;
+    for &i in &scratch[LINE + from..LINE + to] {
+        w = with(w, i as usize);
     }
     w
 }
@@ -65,12 +61,10 @@ pub fn reached(n: usize, scratch: &[u8]) -> u32
     ensures { SetOf n result (is_reached scratch.now) }
 {
     let mut w = 0u32;
-    let mut i = 0;
-    while i < n {
+    for i in 0..n {
         if scratch[i] != 0 {
             w = with(w, i);
         }
-        i += 1;
     }
     w
 }

@@ -1,9 +1,10 @@
 // The search of step 2b, ring by ring, in the scratch.
+ghost use Rattle.std.specs.Prelude.{◌<◌, MatchOption};
 ghost use Rattle.rings.specs.Search.{Lists, Answered};
 
 use crate::line;
 
-// The giver (n for nobody), and those of the ring before who want a chore of the giver.
+// The giver, and those of the ring before who want a chore of the giver.
 #[derive(Clone, Copy)]
 pub struct Found {
     pub giver: usize,
@@ -19,34 +20,35 @@ pub fn search(
     ups: &[u32],
     least: u32,
     scratch: &mut [u8],
-) -> Found
+) -> Option<Found>
     requires { Lists n offers.now sums.now ups.now scratch.old }
-    ensures { Answered n offers.now sums.now ups.now least result.giver result.takers scratch.old scratch.new }
+    ensures { MatchOption result
+        (Answered n offers.now sums.now ups.now least n 0 scratch.old scratch.new)
+        (λ f. (f.giver < n) × Answered n offers.now sums.now ups.now least f.giver f.takers scratch.old scratch.new) }
 {
-    let mut giver = n;
-    let mut takers = 0u32;
+    let mut found = None;
     let mut from = 0;
     let mut to = line::start(n, sums, least, scratch);
     'rings: while from < to {
         let ring = line::ring(n, scratch, from, to);
         let further = line::byte_at(scratch, from) + 1;
         let mut end = to;
-        let mut i = 0;
-        while i < n {
+        for i in 0..n {
             let wanting = (offers[i] & ring as u64) as u32;
             if wanting != 0 && scratch[i] == 0 {
                 line::take_place(scratch, end, i, further);
                 end += 1;
                 if ups[i] > least {
-                    giver = i;
-                    takers = wanting;
+                    found = Some(Found {
+                        giver: i,
+                        takers: wanting,
+                    });
                     break 'rings;
                 }
             }
-            i += 1;
         }
         from = to;
         to = end;
     }
-    Found { giver, takers }
+    found
 }

@@ -1,12 +1,11 @@
 -- The loop's invariant: where the run is, that it goes on from there, and that its counters fit.
 -- Assumes nothing.
 use Prim.Native.Nat.{ℕ, suc, ◌≤◌, ◌<◌}
-use mathlib.Core.Bool.{true, false}
 use mathlib.Core.List.{List, [], ◌++◌, append-nil}
 use mathlib.Core.Path.{◌≡◌, refl, ap, subst, ◌∙◌}
 use native.Mathlib.Omega.{arith}
 use lib.ListN.{length}
-use Rattle.finite.proofs.Tests.{clash, by_test}
+use Rattle.finite.proofs.Tests.{by_test}
 use Rattle.model.specs.Limits.{max_agents}
 use Rattle.model.specs.Sheet.{agents_of, chores_of, as_read}
 use Rattle.model.specs.MostMoves.{most_moves, most_ever}
@@ -29,7 +28,8 @@ use Rattle.steps.specs.declared.Turn.{Turn}
 use Rattle.steps.specs.declared.Turn.TheVariants.{Moved, Passed, Cut, Ended}
 use Rattle.seeking.specs.Looks.{Ready}
 use Rattle.steps.specs.Turns.{state_of, named, action_of, is_cut, Tabled, Turning, Turned}
-use Rattle.runs.specs.Runs.{Running, Kit, RunEnds, Sees, Begun, is_end, moves_after, cuts_after, stage_after, Told, Counting, Counted}
+use Rattle.runs.specs.Runs.{Running, Kit, RunEnds, Sees, Begun}
+use Rattle.runs.proofs.Counting.{moves_after, cuts_after, stage_after, Told, Counting, Counted}
 use Rattle.steps.proofs.Ready.{reached_ready}
 
 -- the most moves of a share-out, in numbers
@@ -71,24 +71,16 @@ module _ {s : List ℕ} (v : Valid s) {owners prices groups entitled lent bytes 
 pub starts : {s owners prices groups entitled lent bytes : List ℕ} {at : Stand} → Begun s groups at → Running s owners prices groups entitled lent bytes 0 0 0 → Running s owners prices groups entitled lent bytes at.moves at.cuts at.stage
 starts B R = rw (B.moves, B.cuts, B.stage) R
 
--- only one kind of turn stops the run
-end_only : (answer : Turn) → is_end answer ≡ true → answer ≡ Ended
-unfolding is_end
-end_only (Moved c w u) q = absurd (clash q refl)
-end_only Passed q = absurd (clash q refl)
-end_only Cut q = absurd (clash q refl)
-end_only Ended q = refl
-
--- any other is counted as the step says
+-- a turn that does not stop the run is counted as the step says
 counts-on :
-    {s groups bytes bytes' : List ℕ} {at at' : Stand} (answer : Turn) → is_end answer ≡ false → Counted s groups answer at at' bytes bytes'
+    {s groups bytes bytes' : List ℕ} {at at' : Stand} (answer : Turn) → (answer ≡ Ended → ⊥) → Counted s groups answer at at' bytes bytes'
     → (owners prices entitled : List ℕ)
     → named answer owners prices groups entitled at.moves at.cuts at.stage ≡ busy (state_of owners prices groups entitled at'.moves at'.cuts at'.stage)
-unfolding is_end moves_after cuts_after stage_after
+unfolding moves_after cuts_after stage_after
 counts-on (Moved c w u) h C owners prices entitled = rw (C.moves, C.cuts, C.stage)
 counts-on Passed h C owners prices entitled = rw (C.moves, C.cuts, C.stage)
 counts-on Cut h C owners prices entitled = rw (C.moves, C.cuts, C.stage)
-counts-on Ended h C owners prices entitled = absurd (clash refl h)
+counts-on Ended h C owners prices entitled = absurd (h refl)
 
 -- where the run stands
 module _ {s : List ℕ} (v : Valid s) {owners prices groups entitled lent bytes : List ℕ} (at : Stand) (R : Running s owners prices groups entitled lent bytes at.moves at.cuts at.stage) where
@@ -151,10 +143,9 @@ module _ {s : List ℕ} (v : Valid s) {owners prices groups entitled lent bytes 
           stage_left = stage_left_lem;
         }
 
-    pub ends_here : is_end answer ≡ true → RunEnds s owners' prices' groups' entitled' lent bytes at.moves at.cuts
+    pub ends_here : answer ≡ Ended → RunEnds s owners' prices' groups' entitled' lent bytes at.moves at.cuts
     unfolding Told
-    ends_here q =
-        let e = end_only answer q in
+    ends_here e =
         record {
           stage = at.stage;
           ends = record { steps = suc R.count; ends = comes_next e };
@@ -166,7 +157,7 @@ module _ {s : List ℕ} (v : Valid s) {owners prices groups entitled lent bytes 
       pub sees_on : Sees s groups at.view → Sees s groups' at'.view
       sees_on seen = by_test (is_cut answer) C.looked (λ e. rw (T.kept e, C.kept e) seen)
 
-      module _ (h : is_end answer ≡ false) where
+      module _ (h : answer ≡ Ended → ⊥) where
         pub runs_on : Running s owners' prices' groups' entitled' lent bytes' at'.moves at'.cuts at'.stage
         runs_on =
             record {

@@ -1,13 +1,12 @@
 // The run of Algorithm 1, one step a turn.
 #![tactic(auto)]
 
-ghost use Rattle.std.specs.Prelude.{◌*◌, ◌≡◌, length};
-ghost use Rattle.model.specs.Limits.{max_agents, scratch_size};
+ghost use Rattle.std.specs.Prelude.{◌≡◌, length};
+ghost use Rattle.model.specs.Limits.{scratch_size};
 ghost use Rattle.model.specs.Sheet.{agents_of};
 ghost use Rattle.sheet.specs.Valid.{Valid};
-ghost use Rattle.firsts.specs.Traits.{trait_count};
 ghost use Rattle.steps.specs.Turns.{Tabled};
-ghost use Rattle.runs.specs.Runs.{Running, Kit, RunEnds, is_end, Begun, Counting, Counted};
+ghost use Rattle.runs.specs.Runs.{Running, Kit, RunEnds, Begun};
 
 use firsts::traits::TRAITS;
 use records::note;
@@ -27,44 +26,7 @@ fn begin(sheet: &[u8], groups: &[u8]) -> Stand
     }
 }
 
-// The run stops with this turn.
-fn ended(turn: Turn) -> bool
-    ensures { result ≡ is_end turn }
-{
-    match turn {
-        Turn::Moved { .. } => false,
-        Turn::Passed => false,
-        Turn::Cut => false,
-        Turn::Ended => true,
-    }
-}
-
-// Where the run stands after a turn. A cut starts 2a at the group before the new one. Moves that the record has no room for are counted only.
-fn counted(sheet: &[u8], groups: &[u8], record: &mut [u8], turn: Turn, mut at: Stand) -> Stand
-    requires { Counting sheet.now groups.now turn at }
-    ensures { Counted sheet.now groups.now turn at result «record».old «record».new }
-{
-    match turn {
-        Turn::Moved {
-            chore,
-            giver,
-            receiver,
-        } => {
-            note(record, at.moves, chore, giver, receiver, at.cuts, at.stage);
-            at.moves += 1;
-        }
-        Turn::Passed => at.stage -= 1,
-        Turn::Cut => {
-            at.stage = at.cuts;
-            at.cuts += 1;
-            at.view = view_of(sheet, groups);
-        }
-        Turn::Ended => {}
-    }
-    at
-}
-
-// From the opening to the stop in 2b.
+// From the opening to the stop in 2b. A cut starts 2a at the group before the new one. Moves that the record has no room for are counted only.
 fn take_turns(
     sheet: &[u8],
     owners: &mut [u8],
@@ -83,27 +45,26 @@ fn take_turns(
 {
     let mut at = begin(sheet, groups);
     loop {
-        let turn = step(
+        match step(
             sheet, owners, prices, groups, entitled, likes, first, sets, scratch, at,
-        );
-        if ended(turn) {
-            return at;
+        ) {
+            Turn::Moved {
+                chore,
+                giver,
+                receiver,
+            } => {
+                note(record, at.moves, chore, giver, receiver, at.cuts, at.stage);
+                at.moves += 1;
+            }
+            Turn::Passed => at.stage -= 1,
+            Turn::Cut => {
+                at.stage = at.cuts;
+                at.cuts += 1;
+                at.view = view_of(sheet, groups);
+            }
+            Turn::Ended => return at,
         }
-        at = counted(sheet, groups, record, turn, at);
     }
-}
-
-// Room for the table of first chores.
-fn no_firsts() -> [u16; model::MAX_AGENTS * TRAITS]
-    ensures { max_agents * trait_count ≡ length result }
-{
-    [0; model::MAX_AGENTS * TRAITS]
-}
-
-fn no_sets() -> [u64; model::MAX_AGENTS]
-    ensures { max_agents ≡ length result }
-{
-    [0; model::MAX_AGENTS]
 }
 
 // The run, with its table.
@@ -121,8 +82,8 @@ pub fn run(
     requires scratch_len { length scratch.old ≡ scratch_size }
     ensures { RunEnds sheet.now owners.new prices.new groups.new entitled.new «record».old «record».new result.moves result.cuts }
 {
-    let mut first = no_firsts();
-    let mut sets = no_sets();
+    let mut first = [0; model::MAX_AGENTS * TRAITS];
+    let mut sets = [0; model::MAX_AGENTS];
     fill_table(
         sheet, owners, prices, groups, entitled, likes, &mut first, &mut sets,
     );

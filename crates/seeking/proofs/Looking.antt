@@ -4,7 +4,7 @@ use Prim.Native.Nat.{ℕ, ◌≤◌, ◌<◌}
 use mathlib.Core.Bool.{◌&&◌}
 use mathlib.Core.List.{List}
 use mathlib.Core.Logic.{◌⊎◌}
-use mathlib.Core.Path.{◌≡◌, ap, ◌∙◌}
+use mathlib.Core.Path.{◌≡◌, sym, ap, ◌∙◌}
 use native.Mathlib.Nat.{le_of_lt}
 use native.Mathlib.Omega.{arith}
 use lib.Dec.{eqb}
@@ -25,7 +25,7 @@ use Rattle.totals.specs.Totals.{Summed}
 use Rattle.firsts.specs.Traits.{top_trait, mid_trait, has_trait}
 use Rattle.firsts.specs.Dearest.{Weighing, Weighed}
 use Rattle.firsts.proofs.DearestIn.{top_trait_lem, mid_trait_lem, weighing, weighed_up}
-use Rattle.rings.specs.Search.{Searching}
+use Rattle.rings.specs.Search.{Searching, Searched, Answered}
 use Rattle.seeking.specs.Looks.{Looking}
 use Rattle.seeking.proofs.Wanting.{wanted_trait}
 use Rattle.seeking.proofs.Ready.{sum_is, up_is, least_is_lem}
@@ -76,13 +76,19 @@ module _ {s owners prices groups sets : List ℕ} {free grouped low mid top : �
       (L.rows.row i h).some.member j (omega (arith, few))
       ∙ any_cong (chores_of s) (λ c k. ap (λ b. owns (owner_of owners) i c && b) (wanted_trait L.ready L.views.sides mid top j c l k))
 
-  pub searching : {n : ℕ} {sums ups : List ℕ} {least : ℕ} → n ≡ agents_of s → Summed n owners prices sums ups → least ≡ min_to n (λ i. get_or sums i 0) → Searching (as_read s) (owner_of owners) (price_of prices) sets sums ups least
-  unfolding as_read
-  searching agents T e =
-      record {
-        some = L.ready.valid.some_agent;
-        offered = offered;
-        sum = sum_is L.ready agents T;
-        up = up_is L.ready agents T;
-        least_is = least_is_lem L.ready agents T e;
-      }
+  -- so what the search answers is said of the state
+  module _ {n : ℕ} {sums ups : List ℕ} {least : ℕ} (agents : n ≡ agents_of s) (T : Summed (agents_of s) owners prices sums ups) (is : least ≡ min_to n (λ i. get_or sums i 0)) where
+    searching : Searching (as_read s) (owner_of owners) (price_of prices) sets sums ups least
+    unfolding as_read
+    searching =
+        record {
+          some = L.ready.valid.some_agent;
+          offered = offered;
+          sum = sum_is L.ready T;
+          up = up_is L.ready T;
+          least_is = least_is_lem L.ready T agents is;
+        }
+
+    pub searched : {giver takers : ℕ} {lent scratch : List ℕ} → Answered n sets sums ups least giver takers lent scratch → Searched (as_read s) (owner_of owners) (price_of prices) giver takers lent scratch
+    unfolding as_read
+    searched A = A.searched _ _ _ (sym agents) searching

@@ -12,6 +12,8 @@ use Rattle.market.specs.Market.{group_of, entitled_of, ByGroup, Liked}
 use Rattle.firsts.specs.Traits.{free_trait, has_trait}
 use Rattle.firsts.specs.Table.{Firsts}
 use Rattle.rings.specs.Search.{Searched}
+use Rattle.seeking.specs.declared.Due.{Due}
+use Rattle.seeking.specs.declared.Due.TheVariants.{Hand, Pass, Cut, End}
 
 -- the lists of a state with the core invariant
 pub record Ready (s owners prices groups entitled likes : List ℕ) : Type 0 where
@@ -69,3 +71,10 @@ pub record Sought (s owners prices groups : List ℕ) (stage giver receiver soug
   pub size : length scratch ≡ length lent
   pub in2b : stage ≡ 0 → Look s owners prices giver receiver sought any lent scratch
   pub in2a : 0 < stage → Choice s owners prices groups stage giver receiver sought
+
+-- what is due: a move; in 2a, on to the next group; in 2b, with nobody to give, the cut or the end
+abbrev pub IsDue : List ℕ → List ℕ → List ℕ → List ℕ → ℕ → Due → List ℕ → List ℕ → Type 0
+IsDue s owners prices groups stage (Hand m) lent scratch = (m.giver < agents_of s) × Sought s owners prices groups stage m.giver m.receiver m.sought true lent scratch
+IsDue s owners prices groups stage Pass lent scratch = (0 < stage) × Sought s owners prices groups stage (agents_of s) (agents_of s) free_trait false lent scratch
+IsDue s owners prices groups stage Cut lent scratch = (stage ≡ 0) × Sought s owners prices groups stage (agents_of s) (agents_of s) (agents_of s) true lent scratch
+IsDue s owners prices groups stage End lent scratch = (stage ≡ 0) × Sought s owners prices groups stage (agents_of s) (agents_of s) (agents_of s) false lent scratch

@@ -1,13 +1,13 @@
 // The move that is due in a state of Algorithm 1: in 2a the choice at the group at work, in 2b what the search finds.
 #![tactic(auto)]
 
-ghost use Rattle.std.specs.Prelude.{◌≡◌, length};
+ghost use Rattle.std.specs.Prelude.{◌≡◌, ◌<◌, ℕ, List, length, MatchOption};
 ghost use Rattle.model.specs.Limits.{max_agents, scratch_size};
 ghost use Rattle.model.specs.Sheet.{agents_of};
 ghost use Rattle.sheet.specs.Valid.{Valid};
 ghost use Rattle.totals.specs.Totals.{Summed};
 ghost use Rattle.firsts.specs.Traits.{free_trait};
-ghost use Rattle.seeking.specs.Looks.{Views, Looking, Seeing, Look, Choice, Sought};
+ghost use Rattle.seeking.specs.Looks.{Views, Looking, Seeing, Choice, IsDue};
 
 use firsts::dearest::rests;
 use firsts::traits::{FREE, View};
@@ -16,7 +16,6 @@ use market::sums::{any_above, by_group, least_of};
 use market::words::lowest;
 use rings::search::search;
 use totals::lanes::add_up;
-use totals::zeros;
 
 // The view of a state, that its table goes by: the agents by their groups, and the prices that there are.
 pub fn view_of(sheet: &[u8], groups: &[u8]) -> View
@@ -53,13 +52,21 @@ fn weigh(
     rests(sheet::agents(sheet), sums, sets, view, ups);
 }
 
-// The move that is due: the giver, n where none is, the receiver, and the trait of the chore that goes. And whether anybody is above the least sum.
+// A move: the giver, the receiver, and the trait of the chore that goes.
 #[derive(Clone, Copy)]
-pub struct Seen {
+pub struct Move {
     pub giver: usize,
     pub receiver: usize,
     pub sought: usize,
-    pub any: bool,
+}
+
+// What is due: a move; on to the next group, in 2a; in 2b with nobody to give, the cut, or the end where nobody is above the least sum.
+#[derive(Clone, Copy)]
+pub enum Due {
+    Hand(Move),
+    Pass,
+    Cut,
+    End,
 }
 
 // What is due in 2b: the receiver is the lowest of those whom the search found.
@@ -70,40 +77,31 @@ fn look(
     sets: &[u64],
     view: View,
     scratch: &mut [u8],
-) -> Seen
+) -> Due
     requires seeing { Seeing sheet.now owners.now prices.now sets.now view.free view.grouped view.low view.mid view.top }
     requires scratch_len { length scratch.old ≡ scratch_size }
-    ensures { Look sheet.now owners.now prices.now result.giver result.receiver result.sought result.any scratch.old scratch.new }
+    ensures { (groups : List ℕ) → IsDue sheet.now owners.now prices.now groups 0 result scratch.old scratch.new }
 {
     let n = sheet::agents(sheet);
-    let mut sums = zeros();
-    let mut ups = zeros();
+    let mut sums = [0; model::MAX_AGENTS];
+    let mut ups = [0; model::MAX_AGENTS];
     weigh(sheet, owners, prices, sets, view, &mut sums, &mut ups);
     let least = least_of(n, &sums);
-    let found = search(n, sets, &sums, &ups, least, scratch);
-    let any = found.giver < n || any_above(n, &ups, least);
-    let receiver = lowest(found.takers, n);
-    Seen {
-        giver: found.giver,
-        receiver,
-        sought: receiver,
-        any,
+    match search(n, sets, &sums, &ups, least, scratch) {
+        Some(found) => {
+            let receiver = lowest(found.takers, n).unwrap();
+            Due::Hand(Move {
+                giver: found.giver,
+                receiver,
+                sought: receiver,
+            })
+        }
+        None if any_above(n, &ups, least) => Due::Cut,
+        None => Due::End,
     }
 }
 
-// A move of 2a: what goes is not entitled.
-fn free_chore(giver: usize, receiver: usize) -> Seen
-    ensures { (result.giver ≡ giver) × (result.receiver ≡ receiver) × (result.sought ≡ free_trait) }
-{
-    Seen {
-        giver,
-        receiver,
-        sought: FREE,
-        any: false,
-    }
-}
-
-// What is due in 2a at the group at work.
+// The move that is due in 2a at the group at work, if one is: what goes is not entitled.
 fn choose(
     sheet: &[u8],
     owners: &[u8],
@@ -112,24 +110,26 @@ fn choose(
     sets: &[u64],
     view: View,
     stage: u8,
-) -> Seen
+) -> Option<Move>
     requires { Looking sheet.now owners.now prices.now groups.now sets.now view.free view.grouped view.low view.mid view.top }
-    ensures { Choice sheet.now owners.now prices.now groups.now stage result.giver result.receiver result.sought }
+    ensures { MatchOption result
+        (Choice sheet.now owners.now prices.now groups.now stage (agents_of sheet.now) (agents_of sheet.now) free_trait)
+        (λ m. (m.giver < agents_of sheet.now) × Choice sheet.now owners.now prices.now groups.now stage m.giver m.receiver m.sought) }
 {
-    let n = sheet::agents(sheet);
-    let mut sums = zeros();
-    let mut ups = zeros();
+    let mut sums = [0; model::MAX_AGENTS];
+    let mut ups = [0; model::MAX_AGENTS];
     weigh(sheet, owners, prices, sets, view, &mut sums, &mut ups);
-    let giver = greatest_in(groups, &ups, stage);
-    let receiver = least_after(groups, &sums, stage);
-    if giver < n {
-        if receiver < n {
-            if ups[giver] > sums[receiver] {
-                return free_chore(giver, receiver);
-            }
-        }
+    let giver = greatest_in(groups, &ups, stage)?;
+    let receiver = least_after(groups, &sums, stage)?;
+    if ups[giver] > sums[receiver] {
+        Some(Move {
+            giver,
+            receiver,
+            sought: FREE,
+        })
+    } else {
+        None
     }
-    free_chore(n, n)
 }
 
 // What is due.
@@ -142,13 +142,13 @@ pub fn seek(
     view: View,
     scratch: &mut [u8],
     stage: u8,
-) -> Seen
+) -> Due
     requires looking { Looking sheet.now owners.now prices.now groups.now sets.now view.free view.grouped view.low view.mid view.top }
     requires scratch_len { length scratch.old ≡ scratch_size }
-    ensures { Sought sheet.now owners.now prices.now groups.now stage result.giver result.receiver result.sought result.any scratch.old scratch.new }
+    ensures { IsDue sheet.now owners.now prices.now groups.now stage result scratch.old scratch.new }
 {
     if stage == 0 {
         return look(sheet, owners, prices, sets, view, scratch);
     }
-    choose(sheet, owners, prices, groups, sets, view, stage)
+    choose(sheet, owners, prices, groups, sets, view, stage).map_or(Due::Pass, Due::Hand)
 }

@@ -97,22 +97,19 @@ module _ {s owners prices groups entitled likes first sets : List ℕ} {cuts : �
             moved T seen receiver_below H
             (λ moves. rw (chore_at, receiver_at, L.searched.gives some) (hands2b (as_read s) (state_of owners prices groups entitled moves cuts 0) refl due receiver_known chore_known))
 
-    module _ (nobody : agents_of s ≤ giver) where
-      end : giver ≡ agents_of s
-      unfolding as_read
-      end = omega (arith, L.searched.limit)
+  -- nobody is to give
+  module _ {u t : ℕ} {any : Bool} {lent scratch : List ℕ} (L : Look s owners prices (agents_of s) u t any lent scratch) where
+    none : due2b (as_read s) (owner_of owners) (price_of prices) ≡ false
+    unfolding as_read
+    none = L.searched.none refl
 
-      none : due2b (as_read s) (owner_of owners) (price_of prices) ≡ false
-      unfolding as_read
-      none = L.searched.none end
+    pub cuts_on : any ≡ true → {prices' groups' entitled' first' sets' : List ℕ} → CutOff s owners prices groups entitled scratch cuts prices' groups' entitled' → Tabled s owners prices' groups' entitled' likes first' sets' → Turned s owners prices groups entitled likes cuts 0 Cut owners prices' groups' entitled' first' sets'
+    unfolding as_read
+    cuts_on some C =
+        cut_off T (reached_is L.searched T.ready.valid.some_agent refl C.in_line)
+        (λ moves. cuts2b (as_read s) (state_of owners prices groups entitled moves cuts 0) refl none (sym L.any_is ∙ some))
+        C.cut C.grouped
 
-      pub cuts_on : any ≡ true → {prices' groups' entitled' first' sets' : List ℕ} → CutOff s owners prices groups entitled scratch cuts prices' groups' entitled' → Tabled s owners prices' groups' entitled' likes first' sets' → Turned s owners prices groups entitled likes cuts 0 Cut owners prices' groups' entitled' first' sets'
-      unfolding as_read
-      cuts_on some C =
-          cut_off T (reached_is L.searched T.ready.valid.some_agent end C.in_line)
-          (λ moves. cuts2b (as_read s) (state_of owners prices groups entitled moves cuts 0) refl none (sym L.any_is ∙ some))
-          C.cut C.grouped
-
-      pub stops_here : any ≡ false → Turned s owners prices groups entitled likes cuts 0 Ended owners prices groups entitled first sets
-      unfolding as_read
-      stops_here calm = ended T (λ moves. stops2b (as_read s) (state_of owners prices groups entitled moves cuts 0) refl none (sym L.any_is ∙ calm))
+    pub stops_here : any ≡ false → Turned s owners prices groups entitled likes cuts 0 Ended owners prices groups entitled first sets
+    unfolding as_read
+    stops_here calm = ended T (λ moves. stops2b (as_read s) (state_of owners prices groups entitled moves cuts 0) refl none (sym L.any_is ∙ calm))

@@ -12,7 +12,7 @@ use firsts::table::{fill, first_of, hand_on};
 use firsts::traits::View;
 use market::cuts::{cut_groups, cut_prices};
 use rings::line::reached;
-use seeking::{Seen, seek, view_of};
+use seeking::{Due, Move, seek, view_of};
 
 // What a step did. A move tells its chore, giver and receiver, counted from 0.
 #[derive(Clone, Copy)]
@@ -64,19 +64,24 @@ fn hand_over(
     view: View,
     first: &mut [u16],
     sets: &mut [u64],
-    seen: Seen,
+    due: Move,
 ) -> Turn
-    requires { Handing owners.old prices.now entitled.now likes.now first.old sets.old seen.giver seen.receiver seen.sought }
-    ensures { HandedOver (has_trait prices.now entitled.now likes.now view.free view.grouped view.mid view.top) seen.giver seen.receiver seen.sought owners.old first.old sets.old result owners.new first.new sets.new }
+    requires { Handing owners.old prices.now entitled.now likes.now first.old sets.old due.giver due.receiver due.sought }
+    ensures { HandedOver (has_trait prices.now entitled.now likes.now view.free view.grouped view.mid view.top) due.giver due.receiver due.sought owners.old first.old sets.old result owners.new first.new sets.new }
 {
-    let giver = seen.giver;
-    let u = seen.receiver;
-    let chore = first_of(first, giver, seen.sought);
-    hand_on(owners, prices, entitled, likes, view, first, sets, chore, u);
+    let Move {
+        giver,
+        receiver,
+        sought,
+    } = due;
+    let chore = first_of(first, giver, sought);
+    hand_on(
+        owners, prices, entitled, likes, view, first, sets, chore, receiver,
+    );
     Turn::Moved {
         chore,
         giver,
-        receiver: u,
+        receiver,
     }
 }
 
@@ -119,17 +124,14 @@ pub fn step(
         result owners.new prices.new groups.new entitled.new first.new sets.new }
 {
     let view = at.view;
-    let seen = seek(sheet, owners, prices, groups, sets, view, scratch, at.stage);
-    if seen.giver < sheet::agents(sheet) {
-        return hand_over(owners, prices, entitled, likes, view, first, sets, seen);
+    match seek(sheet, owners, prices, groups, sets, view, scratch, at.stage) {
+        Due::Hand(due) => hand_over(owners, prices, entitled, likes, view, first, sets, due),
+        Due::Pass => Turn::Passed,
+        Due::Cut => {
+            cut(sheet, owners, prices, groups, entitled, scratch, at.cuts);
+            fill_table(sheet, owners, prices, groups, entitled, likes, first, sets);
+            Turn::Cut
+        }
+        Due::End => Turn::Ended,
     }
-    if at.stage != 0 {
-        return Turn::Passed;
-    }
-    if seen.any {
-        cut(sheet, owners, prices, groups, entitled, scratch, at.cuts);
-        fill_table(sheet, owners, prices, groups, entitled, likes, first, sets);
-        return Turn::Cut;
-    }
-    Turn::Ended
 }

@@ -1,14 +1,11 @@
 -- Laws of the sweep: one chore more, and the dearest taken off.
 -- Assumes nothing.
-use Prim.Native.Nat.{ℕ, ◌+◌, ◌-◌, ◌^◌, ◌≤◌, ◌<◌, max}
+use Prim.Native.Nat.{ℕ, ◌+◌, ◌-◌, ◌^◌, ◌≤◌, ◌<◌}
 use mathlib.Core.List.{List}
 use mathlib.Core.Path.{◌≡◌, refl, ap₂, ◌∙◌}
-use native.Mathlib.Nat.{le_of_lt, max-eq_left, max-eq_right}
 use native.Mathlib.Omega.{arith}
 use lib.ListN.{length, get_or, set, replicate}
-use Rattle.std.proofs.lemmas.List.{set-get_or}
 use Rattle.finite.specs.Lists.{Table}
-use Rattle.finite.proofs.Below.{by_less}
 use Rattle.finite.proofs.Where.{peak_within}
 use Rattle.finite.proofs.Sweeps.{sums_none, sums_next, sums_bound, tops_none, tops_raised, tops_kept}
 use Rattle.model.specs.Limits.{max_agents, max_price}
@@ -64,13 +61,13 @@ module _ {owners prices : List ℕ} (h : Held owners prices) {c : ℕ} (below : 
     unfolding total owns owner_of price_of
     sum_next = sums_next (owner_of owners) (price_of prices) refl a.sum owner_room refl
 
-    -- chore c is dearer than any of its owner's, or it is not
-    top_next : Table max_agents (dearest (c + 1) (owner_of owners) (price_of prices)) (set tops (owner owners c) (max (get_or tops (owner owners c) 0) (get_or prices c 0)))
+    -- chore c is as dear as any of its owner's
+    pub added_raised : get_or tops (owner owners c) 0 ≤ get_or prices c 0 → Added (c + 1) owners prices (set sums (owner owners c) (get_or sums (owner owners c) 0 + get_or prices c 0)) (set tops (owner owners c) (get_or prices c 0))
     unfolding dearest owns owner_of price_of
-    top_next =
-        by_less (get_or tops (owner owners c) 0) (get_or prices c 0)
-        (λ l. rw (max-eq_right (le_of_lt l)) (tops_raised (owner_of owners) (price_of prices) refl a.top owner_room refl (le_of_lt l)))
-        (λ l. rw (max-eq_left l, set-get_or tops (owner owners c) 0) (tops_kept (owner_of owners) (price_of prices) refl a.top l))
+    added_raised d =
+        record { sum = sum_next; top = tops_raised (owner_of owners) (price_of prices) refl a.top owner_room refl d }
 
-    pub added_next : Added (c + 1) owners prices (set sums (owner owners c) (get_or sums (owner owners c) 0 + get_or prices c 0)) (set tops (owner owners c) (max (get_or tops (owner owners c) 0) (get_or prices c 0)))
-    added_next = record { sum = sum_next; top = top_next }
+    -- or is not dearer
+    pub added_kept : get_or prices c 0 ≤ get_or tops (owner owners c) 0 → Added (c + 1) owners prices (set sums (owner owners c) (get_or sums (owner owners c) 0 + get_or prices c 0)) tops
+    unfolding dearest owns owner_of price_of
+    added_kept d = record { sum = sum_next; top = tops_kept (owner_of owners) (price_of prices) refl a.top d }

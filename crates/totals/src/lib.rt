@@ -1,38 +1,12 @@
-// Sums of all agents: price sums, in one pass over the chores, and the first sum that is below a limit or the least. And lists of zeros.
+// Sums of all agents: price sums, in one pass over the chores, and the first sum that is below a limit or the least.
 #![tactic(auto)]
 
 ghost use Rattle.std.specs.Prelude.{true, ◌≡◌, ◌≤◌, ◌<◌, ltb, length, get_or, replicate};
 ghost use Rattle.finite.specs.Search.{first_below, if_below, chosen};
-ghost use Rattle.model.specs.Limits.{max_agents, max_chores, scratch_size};
+ghost use Rattle.model.specs.Limits.{max_agents};
 ghost use Rattle.totals.specs.Totals.{Parts, TakenOff, Summing, Summed};
 
 pub mod lanes;
-
-// A number for each agent. Made in a function of its own, so that its entries are one value where it is used.
-pub fn zeros() -> [u32; model::MAX_AGENTS]
-    ensures { result ≡ replicate max_agents 0 }
-{
-    [0; model::MAX_AGENTS]
-}
-
-// Lists for a share-out that is lent none. Each is made by a function of its own, whose contract tells its length and spares the callers its entries.
-pub fn no_owners() -> [u8; model::MAX_CHORES]
-    ensures { max_chores ≡ length result }
-{
-    [0; model::MAX_CHORES]
-}
-
-pub fn no_prices() -> [u32; model::MAX_CHORES]
-    ensures { max_chores ≡ length result }
-{
-    [0; model::MAX_CHORES]
-}
-
-pub fn no_scratch() -> [u8; model::SCRATCH_SIZE]
-    ensures { scratch_size ≡ length result }
-{
-    [0; model::SCRATCH_SIZE]
-}
 
 // For a lent scratch, which ends as zeros.
 pub fn clear(xs: &mut [u8])
@@ -63,10 +37,13 @@ pub fn sum_up(
     requires { Summing n owners.now prices.now sums.old ups.old }
     ensures { Summed n owners.now prices.now sums.new ups.new }
 {
-    for (&owner, &price) in owners.iter().zip(prices) {
-        let o = owner as usize - 1;
+    for c in 0..owners.len() {
+        let o = owners[c] as usize - 1;
+        let price = prices[c];
         sums[o] += price;
-        ups[o] = ups[o].max(price);
+        if ups[o] < price {
+            ups[o] = price;
+        }
     }
     take_off(n, sums, ups);
 }

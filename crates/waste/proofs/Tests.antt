@@ -19,7 +19,7 @@ use Rattle.welfare.proofs.Costs.{owned, owned_by, owned_not}
 use Rattle.given.specs.Given.{Given}
 use Rattle.given.proofs.Given.{owner_below}
 use Rattle.waste.specs.Rings.{no_distance}
-use Rattle.waste.specs.Tests.{shares, takes, wasted, passable, OnSheet, BothOnSheet}
+use Rattle.waste.specs.Tests.{shares, takes, wasted, passable, OnSheet}
 
 -- where the readers may read
 
@@ -27,14 +27,6 @@ module _ {s : List ℕ} {n m c : ℕ} (o : OnSheet s n m c) where
   pub on_sheet : {j : ℕ} → j < n → InSheet s m j c
   on_sheet l =
       record { valid = o.valid; chores = o.chores; agent = omega (arith, o.agents); chore = omega (arith, o.chores, o.chore) }
-
-module _ {s : List ℕ} {m i j c : ℕ} (o : BothOnSheet s m i j c) where
-  pub one_on_sheet : InSheet s m i c
-  one_on_sheet = record { valid = o.valid; chores = o.chores; agent = o.one; chore = omega (arith, o.chores, o.chore) }
-
-  pub other_on_sheet : InSheet s m j c
-  other_on_sheet =
-      record { valid = o.valid; chores = o.chores; agent = o.other; chore = omega (arith, o.chores, o.chore) }
 
 module _ {s owners : List ℕ} {n m : ℕ} (g : Given s owners n m) where
   pub given_on_sheet : {c : ℕ} → c < m → OnSheet s n m c

@@ -1,46 +1,29 @@
 -- `allocation::share_out` meets its contract.
-use Prim.Native.Nat.{◌-◌}
-use mathlib.Core.List.{◌++◌}
-use mathlib.Core.Path.{◌≡◌, refl, ap, ◌∙◌}
-use lib.ListN.{length, drop, replicate}
-use borrow.Author.Rules.{rules}
+use Rattle.std.proofs.Common.{◌≡◌, ◌-◌, ◌++◌, length, drop, replicate, refl, ap, ◌∙◌, rules}
 use Rattle.finite.proofs.Lists.{first_sized_lem}
 use Rattle.model.specs.Limits.{scratch_size}
-use Rattle.allocation.proofs.Accepting.{Fine, is_fine, shared_out}
+use Rattle.allocation.proofs.Accepting.{is_fine, shared_out}
 use Rattle.allocation.proofs.share_out.Goals as goal
 
 pub chores-m-requires : goal.chores-m-requires
 chores-m-requires c = (is_fine _ _ _ _ c.requires).valid.header
 
 pub slice_bounds-share-end : goal.slice_bounds-share-end
-slice_bounds-share-end c =
-    let fine : let args = c.args in
-    Fine args.sheet.now (length args.owners.now) (length args.prices.now) (length args.scratch.now) = is_fine _ _ _ _ c.requires in
-    search (rules, c.chores-m.ensures.is, (fine).owners_room)
+slice_bounds-share-end c = search (rules, c.chores-m.ensures.is, (is_fine _ _ _ _ c.requires).owners_room)
 
 pub slice_bounds-share-end-2 : goal.slice_bounds-share-end-2
-slice_bounds-share-end-2 c =
-    let fine : let args = c.args in
-    Fine args.sheet.now (length args.owners.now) (length args.prices.now) (length args.scratch.now) = is_fine _ _ _ _ c.requires in
-    search (rules, c.chores-m.ensures.is, (fine).prices_room)
+slice_bounds-share-end-2 c = search (rules, c.chores-m.ensures.is, (is_fine _ _ _ _ c.requires).prices_room)
 
 pub slice_bounds-share-end-3 : goal.slice_bounds-share-end-3
-slice_bounds-share-end-3 c =
-    let fine : let args = c.args in
-    Fine args.sheet.now (length args.owners.now) (length args.prices.now) (length args.scratch.now) = is_fine _ _ _ _ c.requires in
-    search (rules, (fine).scratch_room)
+slice_bounds-share-end-3 c = search (rules, (is_fine _ _ _ _ c.requires).scratch_room)
 
-pub share-counts-requires : goal.share-counts-requires
-share-counts-requires c =
-    let fine : let args = c.args in
-    Fine args.sheet.now (length args.owners.now) (length args.prices.now) (length args.scratch.now) = is_fine _ _ _ _ c.requires in
-    let args = c.args in record {
-      sharing = record {
-        valid = (fine).valid;
-        owners_sized = first_sized_lem args.owners.now refl c.chores-m.ensures.is (fine).owners_room;
-        prices_sized = first_sized_lem args.prices.now refl c.chores-m.ensures.is (fine).prices_room;
-      };
-      scratch_len = first_sized_lem args.scratch.now refl refl (fine).scratch_room;
+pub share-counts-requires-clause-sharing : goal.share-counts-requires-clause-sharing
+share-counts-requires-clause-sharing c =
+    let fine = is_fine _ _ _ _ c.requires in
+    record {
+      valid = fine.valid;
+      owners_sized = first_sized_lem c.args.owners.now refl c.chores-m.ensures.is fine.owners_room;
+      prices_sized = first_sized_lem c.args.prices.now refl c.chores-m.ensures.is fine.prices_room;
     }
 
 pub returns : goal.returns

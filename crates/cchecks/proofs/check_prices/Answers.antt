@@ -1,6 +1,10 @@
--- `cchecks::check_prices` meets its contract: a refused sheet decides by itself.
+-- A refused sheet decides by itself.
+use Rattle.std.proofs.Common.{sym, ◌∙◌, arith}
+use Rattle.model.proofs.Refusing.{numbered}
 use Rattle.cchecks.proofs.PriceChecks.{refused_sheet}
 use Rattle.cchecks.proofs.check_prices.Goals as goal
 
-pub returns-then-refusal-ne0 : goal.returns-then-refusal-ne0
-returns-then-refusal-ne0 c = refused_sheet _ _ _ c.sheet_refusal-refusal.ensures c.if-refusal-ne0.true
+pub returns-in-Err : goal.returns-in-Err
+returns-in-Err c =
+    let p = numbered c.in-Err.refusal in
+    refused_sheet _ _ _ (c.from.ensures ∙ c.in-Err.ensures) (λ z. omega (arith, z, p, c.from.ensures))

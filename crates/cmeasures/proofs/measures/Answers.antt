@@ -1,6 +1,7 @@
--- `cmeasures::measures` meets its contract.
-use Rattle.cmeasures.proofs.Telling.{left_alone}
+use Rattle.std.proofs.Common.{sym, ◌∙◌}
 use Rattle.cmeasures.proofs.measures.Goals as goal
 
-pub returns-else-answer-eq0 : goal.returns-else-answer-eq0
-returns-else-answer-eq0 c = left_alone c.measures_over-answer.ensures c.if-answer-eq0.false
+pub returns : goal.returns
+returns c =
+    let own = c.measures_over.ensures in
+    record { answer = c.number_of.ensures ∙ own.answer; at_exit = own.numbers; secured = λ e. own.secured (sym c.number_of.ensures ∙ e) }

@@ -8,7 +8,7 @@ use Rattle.contents.proofs.bodies_fit.Goals as goal
 pub loop-j-init : goal.loop-j-init
 loop-j-init c =
     let book = c.args.book.now in
-    (omega arith, omega (arith, c.requires.count, body_first book), starts_zero book)
+    (omega (arith, c.requires.count, body_first book), starts_zero book)
 
 pub returns-then-start_of-end : goal.returns-then-start_of-end
 returns-then-start_of-end c =
@@ -24,11 +24,11 @@ loop-j-preserved c =
     let at = c.loop-j in
     let start = c.start_of.ensures.is in
     let met : sheet_start book at.j ≡ body_start book at.j = omega (arith, start, c.if-start_of-end.false) in
-    (omega arith, omega (arith, c.size_of-end.ensures.is, body_next book at.j), starts_next book at.j at.invariant.2 met)
+    (omega (arith, c.size_of-end.ensures.is, body_next book at.j), starts_next book at.j at.invariant.1 met)
 
 pub returns : goal.returns
 returns c =
     let book = c.args.book.now in
     let at = c.loop-j in
     let all : at.j ≡ c.args.k = omega arith in
-    bodies_end book c.requires.some (rw all at at.invariant.1) (rw all at at.invariant.2)
+    bodies_end book c.requires.some (rw all at at.invariant.0) (rw all at at.invariant.1)

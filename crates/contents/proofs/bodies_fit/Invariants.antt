@@ -1,6 +1,5 @@
 -- `contents::bodies_fit` meets its contract. The loop's invariant: the bodies passed start where they should, and the next one should
 -- start at `end`.
-use Prim.Native.Nat.{◌-◌, ◌≤◌}
 use mathlib.Core.Bool.{true}
 use mathlib.Core.Path.{◌≡◌}
 use Rattle.model.specs.Contents.{body_start}
@@ -8,7 +7,4 @@ use Rattle.contents.specs.Parts.{starts_fit}
 use Rattle.contents.proofs.bodies_fit.Given as goal
 
 abbrev pub invariant-loop-j : goal.invariant-loop-j
-invariant-loop-j l = (l.j ≤ l.k) × (l.end ≡ body_start l.book l.j) × (starts_fit l.book l.j ≡ true)
-
-abbrev pub decreases-loop-j : goal.decreases-loop-j
-decreases-loop-j l = l.k - l.j
+invariant-loop-j l = (l.end ≡ body_start l.book l.j) × (starts_fit l.book l.j ≡ true)

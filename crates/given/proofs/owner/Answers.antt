@@ -3,9 +3,6 @@ use native.Mathlib.Omega.{arith}
 use Rattle.model.specs.Instance.{owner_of}
 use Rattle.given.proofs.owner.Goals as goal
 
-pub overflow_cast-result : goal.overflow_cast-result
-overflow_cast-result c = omega (arith, c.type_inv.owners c.args.c)
-
 pub returns : goal.returns
 unfolding owner_of
 returns c = record { is = refl; below = omega (arith, c.type_inv.owners c.args.c) }

@@ -24,9 +24,9 @@ difficult_weight-b-requires c = (fine (goal.at.difficult_weight-b-requires c).In
 pub nonzero_rem-b : goal.nonzero_rem-b
 nonzero_rem-b c = rw c.easy_weight-a.ensures.is (fine (goal.at.nonzero_rem-b c).In_ok-admit_sheet).easy_positive
 
-pub returns-then-b : goal.returns-then-b
+pub returns-then-b-a-ne0 : goal.returns-then-b-a-ne0
 unfolding measures_refusal multiple_refusal ◌or_else◌
-returns-then-b c = grind (arith, nat_tests)
+returns-then-b-a-ne0 c = grind (arith, nat_tests)
 
 pub returns : goal.returns
 unfolding measures_refusal multiple_refusal ◌or_else◌

@@ -1,9 +1,4 @@
-use Prim.Native.Nat.{◌≤◌, ◌<◌}
-use mathlib.Core.Path.{◌≡◌, ◌∙◌}
-use native.Mathlib.Nat.{mul-le-mul}
-use native.Mathlib.Omega.{arith}
-use lib.Bits.{bit_or}
-use lib.ListN.{get_or}
+use Rattle.std.proofs.Common.{◌<◌, ◌≡◌, ◌∙◌, bit_or, get_or, refl, arith}
 use Rattle.finite.specs.Bits.{SetOf}
 use Rattle.model.specs.Limits.{max_agents}
 use Rattle.model.specs.Sheet.{agents_of, chores_of, as_read}
@@ -11,125 +6,60 @@ use Rattle.model.specs.Algorithm.{opening_owner}
 use Rattle.algorithm.proofs.Opening.{opening_below}
 use Rattle.opening.proofs.Opens.{owner_opens, opens_dear, opens_easy, opens_none, easy_next, count_room, opens_next, opens_all}
 use Rattle.opening.proofs.open.Goals as goal
-use Rattle.opening.proofs.open.Goals.{else-easy-eq0, then-easy-eq0}
+use Rattle.opening.proofs.open.Goals.{After-opens_with-owner, else-easy-eq0, then-easy-eq0}
 
 pub loop-c-init : goal.loop-c-init
 loop-c-init c =
     let pre = c.requires in
     let m = pre.on.chores in
-    let marked = rw pre.on.agents at c.add_rows.ensures in
-    (omega arith, opens_none c.zeros-held.ensures (pre.owners_sized ∙ m) (pre.prices_sized ∙ m) marked)
+    opens_none refl (pre.owners_sized ∙ m) (pre.prices_sized ∙ m) (rw pre.on.agents at c.add_rows.ensures)
+
+-- the agents who find the chore easy, and its owner
+easy_for : (c : After-opens_with-owner) → SetOf (agents_of c.args.sheet.now) (bit_or (get_or c.loop-c.likes c.loop-c.c 0) c.all_difficult_rows-all.result) (λ i. (as_read c.args.sheet.now).easy i c.loop-c.c)
+unfolding as_read
+easy_for c = let on = c.requires.on in easy_next c.loop-c.invariant (omega (arith, on.chores)) on.agents c.all_difficult_rows-all.ensures
+
+owner_is : (c : After-opens_with-owner) → c.opens_with-owner.result ≡ opening_owner (as_read c.args.sheet.now) c.loop-c.c
+owner_is c = let on = c.requires.on in owner_opens c.args.sheet.now c.loop-c.c on.agents (easy_for c) on.valid.agents_fit c.loop-c.invariant.counted (c.opens_with-owner.ensures (rw on.agents (easy_for c).below))
+
+owner_fits : (c : After-opens_with-owner) → c.opens_with-owner.result < max_agents
+unfolding as_read agents_of
+owner_fits c = let valid = c.requires.on.valid in omega (arith, owner_is c, opening_below (as_read c.args.sheet.now) c.loop-c.c valid.some_agent, valid.agents_fit)
 
 pub offset_bounds-held-owner : goal.offset_bounds-held-owner
-unfolding as_read
-offset_bounds-held-owner c =
-    let easy-is : SetOf (agents_of c.args.sheet.now) (bit_or (get_or c.loop-c.likes c.loop-c.c 0) c.all_difficult_rows-all.result) (λ i. (as_read c.args.sheet.now).easy i c.loop-c.c) = let on = c.requires.on in
-    easy_next c.loop-c.invariant.1 (omega (arith, on.chores)) on.agents c.all_difficult_rows-all.ensures in
-    let owner_is : c.opens_with-owner.result ≡ opening_owner (as_read c.args.sheet.now) c.loop-c.c = let on = c.requires.on in
-    let loop = c.loop-c in
-    owner_opens c.args.sheet.now loop.c on.agents (easy-is) on.valid.agents_fit loop.invariant.1.counted c.opens_with-owner.ensures in
-    let owner_fits : c.opens_with-owner.result < max_agents = let valid = c.requires.on.valid in
-    omega (arith, owner_is, opening_below (as_read c.args.sheet.now) c.loop-c.c valid.some_agent, valid.agents_fit) in
-    omega (arith, owner_fits)
+offset_bounds-held-owner c = omega (arith, owner_fits (goal.at.offset_bounds-held-owner c).After-opens_with-owner)
 
 pub bounds-held-owner : goal.bounds-held-owner
-unfolding as_read
-bounds-held-owner c =
-    let easy-is : SetOf (agents_of c.args.sheet.now) (bit_or (get_or c.loop-c.likes c.loop-c.c 0) c.all_difficult_rows-all.result) (λ i. (as_read c.args.sheet.now).easy i c.loop-c.c) = let on = c.requires.on in
-    easy_next c.loop-c.invariant.1 (omega (arith, on.chores)) on.agents c.all_difficult_rows-all.ensures in
-    let owner_is : c.opens_with-owner.result ≡ opening_owner (as_read c.args.sheet.now) c.loop-c.c = let on = c.requires.on in
-    let loop = c.loop-c in
-    owner_opens c.args.sheet.now loop.c on.agents (easy-is) on.valid.agents_fit loop.invariant.1.counted c.opens_with-owner.ensures in
-    let owner_fits : c.opens_with-owner.result < max_agents = let valid = c.requires.on.valid in
-    omega (arith, owner_is, opening_below (as_read c.args.sheet.now) c.loop-c.c valid.some_agent, valid.agents_fit) in
-    omega (arith, owner_fits)
+bounds-held-owner c = owner_fits (goal.at.bounds-held-owner c).After-opens_with-owner
 
 pub overflow_add-held : goal.overflow_add-held
-unfolding as_read
 overflow_add-held c =
-    let easy-is : SetOf (agents_of c.args.sheet.now) (bit_or (get_or c.loop-c.likes c.loop-c.c 0) c.all_difficult_rows-all.result) (λ i. (as_read c.args.sheet.now).easy i c.loop-c.c) = let on = c.requires.on in
-    easy_next c.loop-c.invariant.1 (omega (arith, on.chores)) on.agents c.all_difficult_rows-all.ensures in
-    let owner_is : c.opens_with-owner.result ≡ opening_owner (as_read c.args.sheet.now) c.loop-c.c = let on = c.requires.on in
-    let loop = c.loop-c in
-    owner_opens c.args.sheet.now loop.c on.agents (easy-is) on.valid.agents_fit loop.invariant.1.counted c.opens_with-owner.ensures in
-    let owner_fits : c.opens_with-owner.result < max_agents = let valid = c.requires.on.valid in
-    omega (arith, owner_is, opening_below (as_read c.args.sheet.now) c.loop-c.c valid.some_agent, valid.agents_fit) in
     let on = c.requires.on in
-    record { fits = omega (arith, count_room c.loop-c.invariant.1 (owner_fits), on.chores, on.valid.chores_fit) }
+    record { fits = omega (arith, count_room c.loop-c.invariant (owner_fits (goal.at.overflow_add-held c).After-opens_with-owner), on.chores, on.valid.chores_fit) }
 
 pub bounds-held-owner-in-loop-c : goal.bounds-held-owner-in-loop-c
-unfolding as_read
-bounds-held-owner-in-loop-c c =
-    let easy-is : SetOf (agents_of c.args.sheet.now) (bit_or (get_or c.loop-c.likes c.loop-c.c 0) c.all_difficult_rows-all.result) (λ i. (as_read c.args.sheet.now).easy i c.loop-c.c) = let on = c.requires.on in
-    easy_next c.loop-c.invariant.1 (omega (arith, on.chores)) on.agents c.all_difficult_rows-all.ensures in
-    let owner_is : c.opens_with-owner.result ≡ opening_owner (as_read c.args.sheet.now) c.loop-c.c = let on = c.requires.on in
-    let loop = c.loop-c in
-    owner_opens c.args.sheet.now loop.c on.agents (easy-is) on.valid.agents_fit loop.invariant.1.counted c.opens_with-owner.ensures in
-    let owner_fits : c.opens_with-owner.result < max_agents = let valid = c.requires.on.valid in
-    omega (arith, owner_is, opening_below (as_read c.args.sheet.now) c.loop-c.c valid.some_agent, valid.agents_fit) in
-    omega (arith, owner_fits)
+bounds-held-owner-in-loop-c c = owner_fits (goal.at.bounds-held-owner-in-loop-c c).After-opens_with-owner
 
 pub overflow_cast-owners : goal.overflow_cast-owners
-unfolding as_read
-overflow_cast-owners c =
-    let easy-is : SetOf (agents_of c.args.sheet.now) (bit_or (get_or c.loop-c.likes c.loop-c.c 0) c.all_difficult_rows-all.result) (λ i. (as_read c.args.sheet.now).easy i c.loop-c.c) = let on = c.requires.on in
-    easy_next c.loop-c.invariant.1 (omega (arith, on.chores)) on.agents c.all_difficult_rows-all.ensures in
-    let owner_is : c.opens_with-owner.result ≡ opening_owner (as_read c.args.sheet.now) c.loop-c.c = let on = c.requires.on in
-    let loop = c.loop-c in
-    owner_opens c.args.sheet.now loop.c on.agents (easy-is) on.valid.agents_fit loop.invariant.1.counted c.opens_with-owner.ensures in
-    let owner_fits : c.opens_with-owner.result < max_agents = let valid = c.requires.on.valid in
-    omega (arith, owner_is, opening_below (as_read c.args.sheet.now) c.loop-c.c valid.some_agent, valid.agents_fit) in
-    omega (arith, owner_fits)
+overflow_cast-owners c = omega (arith, owner_fits (goal.at.overflow_cast-owners c).After-opens_with-owner)
 
 pub overflow_add-owners : goal.overflow_add-owners
-unfolding as_read
-overflow_add-owners c =
-    let easy-is : SetOf (agents_of c.args.sheet.now) (bit_or (get_or c.loop-c.likes c.loop-c.c 0) c.all_difficult_rows-all.result) (λ i. (as_read c.args.sheet.now).easy i c.loop-c.c) = let on = c.requires.on in
-    easy_next c.loop-c.invariant.1 (omega (arith, on.chores)) on.agents c.all_difficult_rows-all.ensures in
-    let owner_is : c.opens_with-owner.result ≡ opening_owner (as_read c.args.sheet.now) c.loop-c.c = let on = c.requires.on in
-    let loop = c.loop-c in
-    owner_opens c.args.sheet.now loop.c on.agents (easy-is) on.valid.agents_fit loop.invariant.1.counted c.opens_with-owner.ensures in
-    let owner_fits : c.opens_with-owner.result < max_agents = let valid = c.requires.on.valid in
-    omega (arith, owner_is, opening_below (as_read c.args.sheet.now) c.loop-c.c valid.some_agent, valid.agents_fit) in
-    omega (arith, owner_fits)
-
-pub overflow_mul-prices : goal.overflow_mul-prices
-overflow_mul-prices c =
-    let weight = c.difficult_weight-b in
-    let b : weight.result ≤ 65535 = omega (arith, weight.ensures.below) in
-    omega (arith, mul-le-mul b b)
-
-pub overflow_mul-prices-else-easy-eq0 : goal.overflow_mul-prices-else-easy-eq0
-overflow_mul-prices-else-easy-eq0 c =
-    let a : c.easy_weight-a.result ≤ 65535 = omega (arith, c.easy_weight-a.ensures.below) in
-    let b : c.difficult_weight-b.result ≤ 65535 = omega (arith, c.difficult_weight-b.ensures.below) in
-    omega (arith, mul-le-mul a b)
+overflow_add-owners c = omega (arith, owner_fits (goal.at.overflow_add-owners c).After-opens_with-owner)
 
 pub loop-c-preserved : goal.loop-c-preserved
-unfolding as_read
 loop-c-preserved c =
-    let easy-is : SetOf (agents_of c.args.sheet.now) (bit_or (get_or c.loop-c.likes c.loop-c.c 0) c.all_difficult_rows-all.result) (λ i. (as_read c.args.sheet.now).easy i c.loop-c.c) = let on = c.requires.on in
-    easy_next c.loop-c.invariant.1 (omega (arith, on.chores)) on.agents c.all_difficult_rows-all.ensures in
-    let owner_is : c.opens_with-owner.result ≡ opening_owner (as_read c.args.sheet.now) c.loop-c.c = let on = c.requires.on in
-    let loop = c.loop-c in
-    owner_opens c.args.sheet.now loop.c on.agents (easy-is) on.valid.agents_fit loop.invariant.1.counted c.opens_with-owner.ensures in
-    let owner_fits : c.opens_with-owner.result < max_agents = let valid = c.requires.on.valid in
-    omega (arith, owner_is, opening_below (as_read c.args.sheet.now) c.loop-c.c valid.some_agent, valid.agents_fit) in
-    let loop = c.loop-c in
+    let at = (goal.at.loop-c-preserved c).After-opens_with-owner in
     let s = c.args.sheet.now in
+    let k = c.loop-c.c in
     let on = c.requires.on in
-    let l : loop.c < chores_of s = omega (arith, on.chores) in
-    let easy = easy-is in
-    let a = c.easy_weight-a.ensures.is in
-    let b = c.difficult_weight-b.ensures.is in (
-      omega arith,
-      elim c.if-easy-eq0.branch [
-        | then-easy-eq0 w ↦ rw (w.prices-is, w.likes-is) (opens_next loop.invariant.1 l (owner_is) (owner_fits) (opens_dear s loop.c on.agents easy w.if-easy-eq0.true b c.everyone-anyone.ensures))
-        | else-easy-eq0 w ↦ rw (w.prices-is, w.likes-is) (opens_next loop.invariant.1 l (owner_is) (owner_fits) (opens_easy s loop.c on.agents easy w.if-easy-eq0.false a b))
-      ],
-    )
+    let inv = c.loop-c.invariant in
+    let l : k < chores_of s = omega (arith, on.chores) in
+    elim c.if-easy-eq0.branch [
+      | then-easy-eq0 w ↦ rw (w.prices-is, w.likes-is) (opens_next inv l (owner_is at) (owner_fits at) (opens_dear s k on.agents (easy_for at) w.if-easy-eq0.true c.difficult_weight-b.ensures.is c.everyone-anyone.ensures))
+      | else-easy-eq0 w ↦ rw (w.prices-is, w.likes-is) (opens_next inv l (owner_is at) (owner_fits at) (opens_easy s k on.agents (easy_for at) w.if-easy-eq0.false c.easy_weight-a.ensures.is c.difficult_weight-b.ensures.is))
+    ]
 
 pub returns : goal.returns
 returns c =
     let end : c.loop-c.c ≡ c.args.m = omega arith in
-    opens_all (rw (end, c.requires.on.chores) at c.loop-c.invariant.1)
+    opens_all (rw (end, c.requires.on.chores) at c.loop-c.invariant)

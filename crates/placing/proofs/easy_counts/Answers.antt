@@ -17,10 +17,10 @@ loop-i-preserved c =
     let loop = c.loop-i in
     let pre = c.requires in
     let below : loop.i < c.args.n = omega arith in
-    (omega arith, counted_more loop.invariant.1 (omega (arith, pre.agents, pre.valid.agents_fit)) (marked_easy pre loop.i c.difficult_marks-difficult.ensures))
+    counted_more loop.invariant (omega (arith, pre.agents, pre.valid.agents_fit)) (marked_easy pre loop.i c.difficult_marks-difficult.ensures)
 
 pub returns : goal.returns
 returns c =
     let loop = c.loop-i in
     let all : loop.i ≡ c.args.n = omega arith in
-    rw all at loop.invariant.1
+    rw all at loop.invariant

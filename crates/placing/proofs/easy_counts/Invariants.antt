@@ -1,11 +1,7 @@
 -- `placing::easy_counts` meets its contract. The loop's invariant: the first i agents have their numbers.
-use Prim.Native.Nat.{◌-◌, ◌≤◌}
 use Rattle.placing.specs.Queueing.{EasyCounted}
 use Rattle.placing.specs.Sheets.{units_on}
 use Rattle.placing.proofs.easy_counts.Given as goal
 
 abbrev pub invariant-loop-i : goal.invariant-loop-i
-invariant-loop-i l = (l.i ≤ l.n) × EasyCounted (units_on l.sheet) l.i l.counts
-
-abbrev pub decreases-loop-i : goal.decreases-loop-i
-decreases-loop-i l = l.n - l.i
+invariant-loop-i l = EasyCounted (units_on l.sheet) l.i l.counts

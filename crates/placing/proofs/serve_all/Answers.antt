@@ -1,42 +1,24 @@
-use Prim.Native.Nat.{◌<◌}
-use mathlib.Core.Path.{◌≡◌, ap, ◌∙◌}
-use native.Mathlib.Omega.{arith}
+use mathlib.Core.Path.{refl}
 use Rattle.model.specs.Sheet.{agents_of, as_marked}
-use Rattle.measures.specs.Dealing.{cheapest}
-use Rattle.placing.proofs.Queueing.{next_agent, queue_start, queue_next, queue_end}
+use Rattle.placing.specs.Queueing.{EasyCounted, NextAgent}
+use Rattle.placing.specs.Sheets.{units_on}
+use Rattle.placing.proofs.Queueing.{queue_start, fewer_wait, queue_next, queue_end}
 use Rattle.placing.proofs.serve_all.Goals as goal
-use Rattle.placing.proofs.serve_all.Goals.{After-first_least-j}
+use Rattle.placing.proofs.serve_all.Goals.{In-Some}
 
--- somebody waits, and the first of those with fewest easy chores is one of the agents
-more : (c : After-first_least-j) → c.loop-t.t < agents_of c.args.sheet.now
-more c =
-    let below : c.loop-t.t < c.args.n = omega arith in
-    rw (← c.requires.quoted.sized.agents) below
+-- the agents are those of the sheet
+counted : (c : In-Some) → EasyCounted (units_on c.args.sheet.now) (agents_of c.args.sheet.now) c.easy_counts-counts.result
+counted c = rw c.requires.quoted.sized.agents at c.easy_counts-counts.ensures
 
-is : (c : After-first_least-j) → c.first_least-j.result ≡ cheapest (agents_of c.args.sheet.now) c.loop-t.counts
-unfolding cheapest
-is c = c.first_least-j.ensures ∙ ap (λ k. cheapest k c.loop-t.counts) c.requires.quoted.sized.agents
+next : (c : In-Some) → NextAgent (agents_of c.args.sheet.now) c.easy_counts-counts.result c.loop-j.waiting c.in-Some.j
+next c = rw c.requires.quoted.sized.agents at c.in-Some.ensures
 
-agent : (c : After-first_least-j) → c.first_least-j.result < agents_of c.args.sheet.now
+pub loop-j-init : goal.loop-j-init
 unfolding as_marked
-agent c =
-    let g = c.requires.quoted in
-    next_agent g.bears g.sized.valid.agents_fit g.sized.valid.chores_fit c.loop-t.invariant (more c) (is c)
-
-pub loop-t-init : goal.loop-t-init
-unfolding as_marked
-loop-t-init c =
+loop-j-init c =
     let g = c.requires.quoted in
     let z = g.sized in
-    queue_start g.bears z.valid.agents_fit z.valid.chores_fit
-    (rw z.agents at c.easy_counts-counts.ensures)
-    c.places_in_all-left.ensures c.requires.places_value (rw (← z.chores) c.requires.owners_value)
-
-pub offset_bounds-measures-j : goal.offset_bounds-measures-j
-offset_bounds-measures-j c = omega (arith, agent (goal.at.offset_bounds-measures-j c).After-first_least-j, c.requires.quoted.sized.valid.agents_fit)
-
-pub bounds-measures-j : goal.bounds-measures-j
-bounds-measures-j c = omega (arith, agent (goal.at.bounds-measures-j c).After-first_least-j, c.requires.quoted.sized.valid.agents_fit)
+    queue_start g.bears z.valid.agents_fit c.places_in_all-left.ensures refl c.requires.places_value (rw (← z.chores) c.requires.owners_value)
 
 pub serve-left-requires : goal.serve-left-requires
 unfolding as_marked
@@ -44,30 +26,29 @@ serve-left-requires c =
     let g = c.requires.quoted in
     record {
       taking = record {
-        row = record { valid = g.sized.valid; chores = g.sized.chores; agent = agent (goal.at.serve-left-requires c).After-first_least-j };
-        filling = c.loop-t.invariant.filling;
+        row = record { valid = g.sized.valid; chores = g.sized.chores; agent = (next (goal.at.serve-left-requires c).In-Some).agent };
+        filling = c.loop-j.invariant.filling;
       };
       q_nonzero = (rw g.weight g.bears.heavy, g.weight);
     }
 
-pub offset_bounds-counts-j : goal.offset_bounds-counts-j
-offset_bounds-counts-j c = omega (arith, agent (goal.at.offset_bounds-counts-j c).After-first_least-j, c.requires.quoted.sized.valid.agents_fit)
-
-pub bounds-counts-j : goal.bounds-counts-j
-bounds-counts-j c = omega (arith, agent (goal.at.bounds-counts-j c).After-first_least-j, c.requires.quoted.sized.valid.agents_fit)
-
-pub loop-t-preserved : goal.loop-t-preserved
+pub loop-j-smaller : goal.loop-j-smaller
 unfolding as_marked
-loop-t-preserved c =
-    let here = (goal.at.loop-t-preserved c).After-first_least-j in
+loop-j-smaller c =
+    let here = (goal.at.loop-j-smaller c).In-Some in
     let g = c.requires.quoted in
-    let z = g.sized in
-    queue_next g.bears z.valid.agents_fit z.valid.chores_fit c.loop-t.invariant (more here) (is here) c.serve-left.ensures
+    rw g.sized.agents (fewer_wait g.bears g.sized.valid.agents_fit c.loop-j.invariant (counted here) (next here))
+
+pub loop-j-preserved : goal.loop-j-preserved
+unfolding as_marked
+loop-j-preserved c =
+    let here = (goal.at.loop-j-preserved c).In-Some in
+    let g = c.requires.quoted in
+    queue_next g.bears g.sized.valid.agents_fit c.loop-j.invariant (counted here) (next here) c.serve-left.ensures
 
 pub returns : goal.returns
 unfolding as_marked
 returns c =
     let g = c.requires.quoted in
     let z = g.sized in
-    let all : c.loop-t.t ≡ c.args.n = omega arith in
-    queue_end g.bears z.valid.agents_fit z.valid.chores_fit c.loop-t.invariant (all ∙ z.agents)
+    queue_end g.bears z.valid.agents_fit c.loop-j.invariant z.valid.chores_fit (rw z.agents at c.in_default.ensures)

@@ -1,32 +1,28 @@
-use Prim.Native.Nat.{◌<◌}
-use mathlib.Core.Path.{◌≡◌}
-use native.Mathlib.Omega.{arith}
-use Rattle.finite.proofs.Below.{none_below}
-use Rattle.placing.proofs.Placing.{sought_here, sought_on, sought_all}
+use Rattle.std.proofs.Common.{rules, tests, arith, ℕ, ◌<◌, ◌≡◌, false, ltb, List, get_or, Option, Some, None, MatchOption, IsSome, refl}
+use borrow.Author.Tests.{ltb-false}
+use Rattle.finite.specs.Sums.{sum_to}
+use Rattle.finite.proofs.Sums.{sum_none}
+use Rattle.placing.proofs.Picking.{some_in, keyed_in}
+use Rattle.sheet.specs.Readers.{InSheet}
 use Rattle.placing.proofs.taker.Goals as goal
-use Rattle.placing.proofs.taker.Goals.{else-here-most, then-here-most}
+use Rattle.placing.proofs.taker.Goals.{After-filter}
 
-pub loop-k-init : goal.loop-k-init
-loop-k-init c = (omega arith, record { found = λ some. absurd (let none : ⊥ = omega arith in none); nobody = λ _ i l. none_below l })
+read : (c : After-filter) (k : ℕ) → k < c.args.n → InSheet c.args.sheet.now c.args.m k c.args.c
+read c k l =
+    let z = c.requires.sized in
+    record { valid = z.valid; chores = z.chores; agent = rw (← z.agents) l; chore = rw (← z.chores) c.requires.chore }
 
-pub rank-here-requires : goal.rank-here-requires
-rank-here-requires c =
-    let pre = c.requires in
-    let k = c.loop-k.k in
-    let below : k < c.args.n = omega arith in record { in_sheet = record { valid = pre.sized.valid; chores = pre.sized.chores; agent = rw (← pre.sized.agents) below; chore = rw (← pre.sized.chores) pre.chore }; places_le_max_chores = pre.few k below }
+pub min_by_key-requires-clause-callable : goal.min_by_key-requires-clause-callable
+min_by_key-requires-clause-callable c =
+    let reads = read (goal.at.min_by_key-requires-clause-callable c).After-filter in
+    keyed_in _ _ (λ x k q d. search (rules, tests)) c.args.n c.filter.result c.filter.ensures.source (λ x l. search (rules, reads))
 
-pub loop-k-preserved : goal.loop-k-preserved
-loop-k-preserved c =
-    let loop = c.loop-k in
-    let inv = loop.invariant.1 in
-    let told = c.rank-here.ensures in
-    let below : loop.k < c.args.n = omega arith in
-    elim c.if-here-most.branch [
-      | then-here-most w ↦ (omega arith, rw (w.best-is, w.most-is) (sought_here inv below told (omega (arith, w.if-here-most.true))))
-      | else-here-most w ↦ (omega arith, rw (w.best-is, w.most-is) (sought_on inv below told (omega (arith, w.if-here-most.false))))
-    ]
+some : (n : ℕ) (places : List ℕ) (r : Option ℕ) → MatchOption r ((k : ℕ) → k < n → ltb 0 (get_or places k 0) ≡ false) (λ j. Unit {0}) → 0 < sum_to n (λ k. get_or places k 0) → IsSome r
+some n places None none all =
+    let empty : sum_to n (λ k. get_or places k 0) ≡ 0 = sum_none n (λ k l. let zero = ltb-false 0 (get_or places k 0) (none k l) in omega arith) in
+    absurd (let no : ⊥ = omega arith in no)
+some n places (Some j) _ all = refl
 
-pub returns : goal.returns
-returns c =
-    let all : c.loop-k.k ≡ c.args.n = omega arith in
-    sought_all c.loop-k.invariant.1 all c.requires.some
+pub unwrap-requires : goal.unwrap-requires
+unwrap-requires c =
+    some c.args.n c.args.places.now c.min_by_key.result (some_in _ (λ k. ltb 0 (get_or c.args.places.now k 0)) _ _ c.min_by_key.result c.filter.ensures.runs c.min_by_key.ensures.runs (λ x b q k. search (rules, tests))) c.requires.some

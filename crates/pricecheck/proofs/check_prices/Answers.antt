@@ -1,12 +1,12 @@
 -- `pricecheck::check_prices` meets its contract: each answer by its law.
-use mathlib.Core.Path.{◌≡◌, refl, sym, ◌∙◌}
+use mathlib.Core.Path.{◌≡◌, refl, sym}
 use Rattle.model.specs.Refusals.{price_refusal}
 use Rattle.model.proofs.Refusing.{left}
 use Rattle.given.proofs.Given.{given_few}
 use Rattle.pricecheck.specs.Parts.{PricesGiven}
 use Rattle.pricecheck.proofs.Refusals.{prices_given, given_held}
 use Rattle.pricecheck.proofs.Envy.{check_off, check_on}
-use Rattle.pricecheck.proofs.Searched.{ended_some, ended_none}
+use Rattle.given.proofs.Found.{found_is, found_none}
 use Rattle.pricecheck.proofs.Checked.{checked, not_checked}
 use Rattle.pricecheck.proofs.check_prices.Goals as goal
 use Rattle.pricecheck.proofs.check_prices.Goals.{In_ok-admit, After-chores-m}
@@ -34,8 +34,8 @@ first_off_price-requires c = given (goal.at.first_off_price-requires c).After-ch
 pub returns-in-Some : goal.returns-in-Some
 returns-in-Some c =
     let at = goal.at.returns-in-Some c in
-    let off = ended_some c.in-Some.ensures.is in
-    checked (check_off _ _ _ (judged at.In_ok-admit) (given at.After-chores-m) off.1 off.0)
+    let off = found_is c.in-Some.ensures.is in
+    checked (check_off _ _ _ (judged at.In_ok-admit) (given at.After-chores-m) off.0 c.in-Some.ensures.within)
 
 pub envy_verdict-requires : goal.envy_verdict-requires
 envy_verdict-requires c =
@@ -45,4 +45,4 @@ envy_verdict-requires c =
 pub returns : goal.returns
 returns c =
     let at = goal.at.returns c in
-    checked (check_on _ _ _ (judged at.In_ok-admit) (given at.After-chores-m) refl (ended_none c.in_default.ensures.is) c.envy_verdict.ensures)
+    checked (check_on _ _ _ (judged at.In_ok-admit) (given at.After-chores-m) refl (found_none c.in_default.ensures.is) c.envy_verdict.ensures)

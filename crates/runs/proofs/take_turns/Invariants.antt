@@ -9,8 +9,14 @@ use Rattle.steps.specs.Turns.{state_of, Tabled}
 use Rattle.runs.specs.Runs.{Running, Kit, Sees}
 use Rattle.runs.proofs.take_turns.Given as goal
 
-abbrev pub invariant-loop-turn : goal.invariant-loop-turn
-invariant-loop-turn l = Kit l.sheet l.likes × Running l.sheet l.owners l.prices l.groups l.entitled l.initial.«record» l.«record» l.at.moves l.at.cuts l.at.stage × Tabled l.sheet l.owners l.prices l.groups l.entitled l.likes l.first l.sets × Sees l.sheet l.groups l.at.view × (length l.scratch ≡ scratch_size)
+abbrev pub invariant-loop-chore : goal.invariant-loop-chore
+invariant-loop-chore l = record {
+  kit : Kit l.sheet l.likes;
+  running : Running l.sheet l.owners l.prices l.groups l.entitled l.initial.«record» l.«record» l.at.moves l.at.cuts l.at.stage;
+  tabled : Tabled l.sheet l.owners l.prices l.groups l.entitled l.likes l.first l.sets;
+  sees : Sees l.sheet l.groups l.at.view;
+  scratch_sized : length l.scratch ≡ scratch_size;
+}
 
-abbrev pub decreases-loop-turn : goal.decreases-loop-turn
-decreases-loop-turn l = step_number (as_read l.sheet) (state_of l.owners l.prices l.groups l.entitled l.at.moves l.at.cuts l.at.stage)
+abbrev pub decreases-loop-chore : goal.decreases-loop-chore
+decreases-loop-chore l = step_number (as_read l.sheet) (state_of l.owners l.prices l.groups l.entitled l.at.moves l.at.cuts l.at.stage)

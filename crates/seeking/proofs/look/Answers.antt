@@ -1,70 +1,56 @@
 -- `seeking::look` meets its contract.
-use Prim.Native.Nat.{◌≤◌}
-use mathlib.Core.Path.{refl, sym, ap, ◌∙◌}
+use Prim.Native.Nat.{ℕ, ◌<◌}
+use mathlib.Core.Bool.{Bool}
+use mathlib.Core.List.{List}
+use mathlib.Core.Path.{◌≡◌, refl, sym, ap, ◌∙◌}
 use native.Mathlib.Omega.{arith}
 use borrow.Author.Rules.{rules}
 use Rattle.finite.specs.Bits.{bit}
 use Rattle.finite.specs.Search.{first_below}
-use Rattle.model.specs.Limits.{max_agents}
+use Rattle.finite.proofs.Found.{below_some, found_is}
 use Rattle.model.specs.Instance.{owner_of, price_of}
-use Rattle.model.specs.Sheet.{as_read}
-use Rattle.totals.specs.Totals.{Summed}
+use Rattle.model.specs.Sheet.{agents_of, as_read}
 use Rattle.rings.specs.Search.{Searched}
-use Rattle.seeking.proofs.Ready.{zeros_sized, summed_of, any_giver, any_is_lem}
-use Rattle.seeking.proofs.Looking.{searching}
+use Rattle.seeking.specs.Looks.{Look, Sought}
+use Rattle.seeking.proofs.Ready.{taker_some, looked, looked_none, any_is_lem}
+use Rattle.seeking.proofs.Looking.{searched}
 use Rattle.seeking.proofs.look.Goals as goal
-use Rattle.seeking.proofs.look.Goals.{else-found-n, then-found-n}
+use Rattle.seeking.proofs.look.Goals.{In-Some, After-any_above}
 
-pub weigh-requires : goal.weigh-requires
-weigh-requires c = record { seeing = c.requires.seeing; sums_len = (zeros_sized c.zeros-sums.ensures, zeros_sized c.zeros-ups.ensures) }
+at2b : {s owners prices groups : List ℕ} {giver receiver sought : ℕ} {any : Bool} {lent scratch : List ℕ} → Look s owners prices giver receiver sought any lent scratch → Sought s owners prices groups 0 giver receiver sought any lent scratch
+at2b L = record { size = L.size; in2b = λ _. L; in2a = λ l. absurd (omega arith) }
 
-pub search-found-requires : goal.search-found-requires
-search-found-requires c =
-    let few : c.agents-n.result ≤ max_agents = omega (arith, c.agents-n.ensures.is, c.requires.seeing.looking.ready.valid.agents_fit) in
-    let summed : let args = c.args in
-    Summed c.agents-n.result args.owners.now args.prices.now c.weigh.new.sums c.weigh.new.ups = summed_of c.agents-n.ensures.is c.weigh.ensures in
-    let pre = c.requires in
-    let fit = few in
-    record {
-      agents = fit;
-      offers_fit = omega (arith, fit, pre.seeing.looking.rows.sized.sets_sized);
-      sums_fit = omega (arith, fit, (summed).sum.size);
-      ups_fit = omega (arith, fit, (summed).size);
-      scratch_sized = pre.scratch_len;
-    }
+-- whom the search found
+found : (c : In-Some) → (c.in-Some.found.giver < agents_of c.args.sheet.now) × Searched (as_read c.args.sheet.now) (owner_of c.args.owners.now) (price_of c.args.prices.now) c.in-Some.found.giver c.in-Some.found.takers c.args.scratch.now c.search.new.scratch
+found c =
+    let s = c.in-Some.ensures in
+    (omega (arith, s.0, c.agents-n.ensures.is), searched c.requires.seeing.looking c.agents-n.ensures.is c.weigh.ensures c.least_of-least.ensures s.1)
 
-pub any_above-any-requires : goal.any_above-any-requires
-any_above-any-requires c =
-    let few : c.agents-n.result ≤ max_agents = omega (arith, c.agents-n.ensures.is, c.requires.seeing.looking.ready.valid.agents_fit) in
-    let summed : let args = c.args in
-    Summed c.agents-n.result args.owners.now args.prices.now c.weigh.new.sums c.weigh.new.ups = summed_of c.agents-n.ensures.is c.weigh.ensures in
-    omega (arith, few, (summed).size)
+pub unwrap-receiver-requires : goal.unwrap-receiver-requires
+unwrap-receiver-requires c =
+    let f = found (goal.at.unwrap-receiver-requires c).In-Some in
+    let some = taker_some c.requires.seeing.looking.ready f.1 f.0 in
+    rw (c.lowest.ensures, c.agents-n.ensures.is, below_some some) refl
 
-pub lowest-receiver-requires : goal.lowest-receiver-requires
-lowest-receiver-requires c =
-    let few : c.agents-n.result ≤ max_agents = omega (arith, c.agents-n.ensures.is, c.requires.seeing.looking.ready.valid.agents_fit) in
-    few
+pub returns-in-Some : goal.returns-in-Some
+returns-in-Some c groups =
+    let f = found (goal.at.returns-in-Some c).In-Some in
+    let at = found_is (sym c.unwrap-receiver.ensures ∙ c.lowest.ensures) in
+    let looked = looked c.requires.seeing.looking.ready f.1 f.0 (search rules) (at.0 ∙ ap (λ n. first_below n (bit c.in-Some.found.takers)) c.agents-n.ensures.is) in
+    (f.0, at2b looked)
 
-pub returns : goal.returns
-unfolding as_read
-returns c =
-    let summed : let args = c.args in
-    Summed c.agents-n.result args.owners.now args.prices.now c.weigh.new.sums c.weigh.new.ups = summed_of c.agents-n.ensures.is c.weigh.ensures in
-    let found : let args = c.args in
-    let result = c.search-found.result in
-    Searched (as_read args.sheet.now) (owner_of args.owners.now) (price_of args.prices.now) result.giver result.takers args.scratch.now c.search-found.new.scratch = let n-is = c.agents-n.ensures.is in
-    c.search-found.ensures.searched _ _ _ (sym n-is) (searching c.requires.seeing.looking n-is (summed) c.least_of-least.ensures) in
-    let ready = c.requires.seeing.looking.ready in
-    let n-is = c.agents-n.ensures.is in
-    record {
-      size = search rules;
-      takers = c.search-found.result.takers;
-      searched = found;
-      receives = c.lowest-receiver.ensures ∙ ap (λ n. first_below n (bit c.search-found.result.takers)) n-is;
-      sought_is = refl;
-      any_is =
-          elim c.if-found-n.branch [
-            | then-found-n w ↦ w.any-is ∙ any_giver ready n-is (summed) (found) w.if-found-n.true
-            | else-found-n w ↦ w.any-is ∙ any_is_lem ready n-is (summed) c.least_of-least.ensures w.any_above-any.ensures
-          ];
-    }
+-- or nobody
+nobody : (c : After-any_above) → {any : Bool} → any ≡ c.any_above.result → Look c.args.sheet.now c.args.owners.now c.args.prices.now (agents_of c.args.sheet.now) (agents_of c.args.sheet.now) (agents_of c.args.sheet.now) any c.args.scratch.now c.search.new.scratch
+nobody c e =
+    let looking = c.requires.seeing.looking in
+    let agents = c.agents-n.ensures.is in
+    let s = searched looking agents c.weigh.ensures c.least_of-least.ensures c.in-None.ensures in
+    looked_none looking.ready (search rules) (rw agents at s) (any_is_lem looking.ready c.weigh.ensures agents c.least_of-least.ensures (e ∙ c.any_above.ensures))
+
+pub returns-in-None : goal.returns-in-None
+returns-in-None c groups =
+    (refl, at2b (nobody (goal.at.returns-in-None c).After-any_above (sym c.if-any_above.true)))
+
+pub returns-in-None-2 : goal.returns-in-None-2
+returns-in-None-2 c groups =
+    (refl, at2b (nobody (goal.at.returns-in-None-2 c).After-any_above (sym c.if-any_above.false)))

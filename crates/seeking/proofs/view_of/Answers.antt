@@ -5,27 +5,25 @@ use native.Mathlib.Nat.{mul-le-mul}
 use native.Mathlib.Omega.{arith}
 use Rattle.model.specs.Limits.{max_weight}
 use Rattle.seeking.proofs.view_of.Goals as goal
+use Rattle.seeking.proofs.view_of.Goals.{After-difficult_weight-b}
 
 product_fits : {x y : ℕ} → x ≤ max_weight → y ≤ max_weight → x * y < 2 ^ 32
 product_fits h l = omega (arith, mul-le-mul h l)
 
+easy : (c : After-difficult_weight-b) → c.easy_weight-a.result ≤ max_weight
+easy c = let valid = c.requires.0 in omega (arith, c.easy_weight-a.ensures.is, valid.easier, valid.weight_fits)
+
+difficult : (c : After-difficult_weight-b) → c.difficult_weight-b.result ≤ max_weight
+difficult c = omega (arith, c.difficult_weight-b.ensures.is, c.requires.0.weight_fits)
+
 pub overflow_mul-result : goal.overflow_mul-result
-overflow_mul-result c =
-    let easy : c.easy_weight-a.result ≤ max_weight = let valid = c.requires.0 in
-    omega (arith, c.easy_weight-a.ensures.is, valid.easier, valid.weight_fits) in
-    record { fits = product_fits (easy) (easy) }
+overflow_mul-result c = let at = (goal.at.overflow_mul-result c).After-difficult_weight-b in record { fits = product_fits (easy at) (easy at) }
 
 pub overflow_mul-result-2 : goal.overflow_mul-result-2
-overflow_mul-result-2 c =
-    let easy : c.easy_weight-a.result ≤ max_weight = let valid = c.requires.0 in
-    omega (arith, c.easy_weight-a.ensures.is, valid.easier, valid.weight_fits) in
-    let difficult : c.difficult_weight-b.result ≤ max_weight = omega (arith, c.difficult_weight-b.ensures.is, c.requires.0.weight_fits) in
-    record { fits = product_fits (easy) (difficult) }
+overflow_mul-result-2 c = let at = (goal.at.overflow_mul-result-2 c).After-difficult_weight-b in record { fits = product_fits (easy at) (difficult at) }
 
 pub overflow_mul-result-3 : goal.overflow_mul-result-3
-overflow_mul-result-3 c =
-    let difficult : c.difficult_weight-b.result ≤ max_weight = omega (arith, c.difficult_weight-b.ensures.is, c.requires.0.weight_fits) in
-    record { fits = product_fits (difficult) (difficult) }
+overflow_mul-result-3 c = let at = (goal.at.overflow_mul-result-3 c).After-difficult_weight-b in record { fits = product_fits (difficult at) (difficult at) }
 
 pub returns : goal.returns
 returns c =

@@ -10,8 +10,8 @@ hand_on-requires c =
 
 pub returns : goal.returns
 returns c =
-    let seen = c.args.seen in
+    let due = c.args.due in
     record {
-      told = ap (λ k. Moved k seen.giver seen.receiver) c.first_of-chore.ensures;
+      told = ap (λ k. Moved k due.giver due.receiver) c.first_of-chore.ensures;
       handed = rw (← c.first_of-chore.ensures) c.hand_on.ensures;
     }

@@ -1,5 +1,5 @@
 use Prim.Native.Nat.{◌<◌}
-use mathlib.Core.Path.{◌≡◌, refl, ◌∙◌}
+use mathlib.Core.Path.{refl, ◌∙◌}
 use native.Mathlib.Omega.{arith}
 use lib.ListN.{length-set}
 use borrow.Author.Tests.{eq-eqb, ne_eqb}
@@ -9,32 +9,21 @@ use Rattle.rings.proofs.line.start.Goals as goal
 use Rattle.rings.proofs.line.start.Goals.{else-sums-i, then-sums-i}
 
 pub loop-i-init : goal.loop-i-init
-loop-i-init c = (omega arith, started_none c.requires.2 refl)
+loop-i-init c = started_none c.requires.2 refl
 
 pub take_place-requires : goal.take_place-requires
 take_place-requires c =
     let loop = c.loop-i in
-    let pre = c.requires in
-    let few : loop.i < max_agents = omega (arith, pre.0) in
-    (length-set loop.scratch loop.i 0 ∙ loop.invariant.1.filled.size, omega (arith, filled_most loop.invariant.1.filled), few)
+    (length-set loop.scratch loop.i 0 ∙ loop.invariant.filled.size, omega (arith, filled_most loop.invariant.filled), omega (arith, c.requires.0))
 
 pub overflow_add-end : goal.overflow_add-end
-overflow_add-end c =
-    let inv = c.loop-i.invariant in
-    omega (arith, filled_most inv.1.filled, inv.0, c.requires.0)
+overflow_add-end c = omega (arith, filled_most c.loop-i.invariant.filled, c.requires.0)
 
 pub loop-i-preserved : goal.loop-i-preserved
 loop-i-preserved c =
     let loop = c.loop-i in
-    let few : loop.i < max_agents = omega (arith, c.requires.0) in (
-      omega arith,
-      elim c.if-sums-i.branch [
-        | then-sums-i w ↦ rw (w.scratch-is, w.end-is, w.take_place.ensures) (started_take few loop.invariant.1 (eq-eqb _ _ w.if-sums-i.true))
-        | else-sums-i w ↦ rw (w.scratch-is, w.end-is) (started_skip few loop.invariant.1 (ne_eqb _ _ w.if-sums-i.false))
-      ],
-    )
-
-pub returns : goal.returns
-returns c =
-    let all : c.loop-i.i ≡ c.args.n = omega arith in
-    rw all at c.loop-i.invariant.1
+    let few : loop.i < max_agents = omega (arith, c.requires.0) in
+    elim c.if-sums-i.branch [
+      | then-sums-i w ↦ rw (w.scratch-is, w.end-is, w.take_place.ensures) (started_take few loop.invariant (eq-eqb _ _ w.if-sums-i.true))
+      | else-sums-i w ↦ rw (w.scratch-is, w.end-is) (started_skip few loop.invariant (ne_eqb _ _ w.if-sums-i.false))
+    ]

@@ -1,4 +1,3 @@
-use Prim.Native.Nat.{◌<◌}
 use mathlib.Core.Path.{◌≡◌, refl}
 use native.Mathlib.Nat.{lt_of_le_of_lt, lt_of_lt_of_le}
 use native.Mathlib.Omega.{arith}
@@ -27,17 +26,15 @@ ring-ring-requires c =
 
 pub byte_at-further-requires : goal.byte_at-further-requires
 byte_at-further-requires c =
-    let nonempty : c.rings.from < c.rings.to = omega arith in
     let rings = c.rings in
     let filled = rings.invariant.1.filled in
     let few = c.requires.agents in
-    (filled.size, omega (arith, nonempty, filled_most filled, few), omega (arith, filled.known rings.from (nonempty), few))
+    (filled.size, omega (arith, c.rings-test.true, filled_most filled, few), omega (arith, filled.known rings.from c.rings-test.true, few))
 
 pub overflow_add-further : goal.overflow_add-further
 overflow_add-further c =
-    let nonempty : c.rings.from < c.rings.to = omega arith in
     let inv = c.rings.invariant.1 in
-    omega (arith, ring_further inv (nonempty) c.byte_at-further.ensures, ring_below inv (nonempty), c.requires.agents)
+    omega (arith, ring_further inv c.rings-test.true c.byte_at-further.ensures, ring_below inv c.rings-test.true, c.requires.agents)
 
 pub loop-i-init : goal.loop-i-init
 loop-i-init c = let rings = c.rings in (rings.invariant.0, agent_first rings.invariant.1 _)
@@ -49,25 +46,23 @@ overflow_cast-wanting-in-loop-i c =
 
 pub take_place-requires : goal.take_place-requires
 take_place-requires c =
-    let below : c.loop-i.i < c.args.n = omega arith in
     let few = c.requires.agents in
-    (c.loop-i.invariant.1.filled.size, agent_room c.ring-ring.ensures (below) c.loop-i.invariant.1 few c.if-wanting-ne0.true (eq-eqb _ 0 c.if-scratch-i-eq0.true), omega (arith, few))
+    (c.loop-i.invariant.1.filled.size, agent_room c.ring-ring.ensures c.loop-i-test.true c.loop-i.invariant.1 few c.if-wanting-ne0.true (eq-eqb _ 0 c.if-scratch-i-eq0.true), omega (arith, few))
 
 pub overflow_add-end : goal.overflow_add-end
 overflow_add-end c = omega (arith, filled_most c.loop-i.invariant.1.filled, c.requires.agents)
 
 pub loop-i-preserved : goal.loop-i-preserved
 loop-i-preserved c =
-    let below : c.loop-i.i < c.args.n = omega arith in
     let few = c.requires.agents in
     let here = c.ring-ring.ensures in
     let inv = c.loop-i.invariant.1 in (
       c.loop-i.invariant.0,
       elim c.if-wanting-ne0.branch [
-        | then-wanting-ne0+then-scratch-i-eq0+else-ups-i w ↦ rw (w.scratch-is, w.end-is, w.take_place.ensures) (agent_take here (below) inv few w.if-wanting-ne0.true (eq-eqb _ 0 w.if-scratch-i-eq0.true) (omega arith) w.if-ups-i.false)
+        | then-wanting-ne0+then-scratch-i-eq0+else-ups-i w ↦ rw (w.scratch-is, w.end-is, w.take_place.ensures) (agent_take here c.loop-i-test.true inv few w.if-wanting-ne0.true (eq-eqb _ 0 w.if-scratch-i-eq0.true) (omega arith) w.if-ups-i.false)
         | else-wanting-ne0 w ↦ rw (w.scratch-is, w.end-is) (elim w.else-wanting-ne0.branch [
-          | else-wanting-ne0-via-then-wanting-ne0+else-scratch-i-eq0 v ↦ agent_reached here below inv (ne_eqb _ 0 v.if-scratch-i-eq0.false)
-          | else-wanting-ne0-via-else-wanting-ne0 v ↦ agent_unwanted here below inv v.if-wanting-ne0.false
+          | else-wanting-ne0-via-then-wanting-ne0+else-scratch-i-eq0 v ↦ agent_reached here c.loop-i-test.true inv (ne_eqb _ 0 v.if-scratch-i-eq0.false)
+          | else-wanting-ne0-via-else-wanting-ne0 v ↦ agent_unwanted here c.loop-i-test.true inv v.if-wanting-ne0.false
         ])
       ],
     )
@@ -79,21 +74,19 @@ rings-smaller c =
 
 pub rings-preserved : goal.rings-preserved
 rings-preserved c =
-    let nonempty : c.rings.from < c.rings.to = omega arith in
     let loop = c.loop-i in
     let inv = c.rings.invariant.1 in
-    let all : loop.i ≡ c.args.n = omega (arith, loop.invariant.1.limit) in
-    (loop.invariant.0, ring_next inv (nonempty) (ring_further inv (nonempty) c.byte_at-further.ensures) (rw all at loop.invariant.1))
+    let all : loop.i ≡ c.args.n = omega arith in
+    (loop.invariant.0, ring_next inv c.rings-test.true (ring_further inv c.rings-test.true c.byte_at-further.ensures) (rw all at loop.invariant.1))
 
 pub returns-after-rings : goal.returns-after-rings
-returns-after-rings c = ring_last c.rings.invariant.1 (omega arith) c.start-to.ensures c.rings.takers c.rings.invariant.0
+returns-after-rings c = rw c.rings.invariant.0 (ring_last c.rings.invariant.1 (omega arith) c.start-to.ensures)
 
 pub returns-then-ups-i : goal.returns-then-ups-i
 returns-then-ups-i c =
-    let nonempty : c.rings.from < c.rings.to = omega arith in
-    let below : c.loop-i.i < c.args.n = omega arith in
-    let some = nonempty in
-    let inv = c.rings.invariant.1 in
-    rw c.take_place.ensures
-    (agent_found c.ring-ring.ensures (below) c.loop-i.invariant.1 c.requires.agents c.if-wanting-ne0.true (eq-eqb _ 0 c.if-scratch-i-eq0.true)
-    (ring_further inv some c.byte_at-further.ensures) (inv.rounds _ c.start-to.ensures) (ring_below inv some) c.if-ups-i.true)
+    let inv = c.rings.invariant.1 in (
+      c.loop-i-test.true,
+      rw c.take_place.ensures
+          (agent_found c.ring-ring.ensures c.loop-i-test.true c.loop-i.invariant.1 c.requires.agents c.if-wanting-ne0.true (eq-eqb _ 0 c.if-scratch-i-eq0.true)
+          (ring_further inv c.rings-test.true c.byte_at-further.ensures) (inv.rounds _ c.start-to.ensures) (ring_below inv c.rings-test.true) c.if-ups-i.true),
+    )
