@@ -1,5 +1,5 @@
 // The rows of the table, a place for each trait. A set of traits is the bits of a word.
-ghost use Rattle.std.specs.Prelude.{MatchOption, ◌+◌, ◌*◌, ◌≤◌, min, cond, ◌&&◌, ◌≡◌, leb, length, get_or};
+ghost use Rattle.std.specs.Prelude.{MatchOption, ◌+◌, ◌*◌, ◌^◌, ◌≤◌, ◌<◌, min, cond, ◌&&◌, ◌≡◌, leb, length, get_or};
 ghost use Rattle.std.specs.Iterator.{at_most};
 ghost use Rattle.finite.specs.Bits.{bit, SetOf};
 ghost use Rattle.model.specs.Limits.{max_agents, max_chores};
@@ -74,7 +74,7 @@ fn earlier(c: usize, d: u16) -> u16
 impl Table {
     // Agent w gains chore c, which has these traits: the earlier chore is the first. Each entry is stored, changed or not.
     pub fn gain(&mut self, w: usize, c: usize, word: u64)
-        requires { Spot self.old.first w word × (c ≤ max_chores) × (length self.old.sets ≡ max_agents) }
+        requires { (w < max_agents) × (word < 2 ^ trait_count) × (c ≤ max_chores) }
         ensures { Gained w c word self.old.first self.old.sets self.new.first self.new.sets }
     {
         for t in Bits(word) {

@@ -38,7 +38,7 @@ impl Table {
         likes: &[u32],
         view: View,
     )
-        requires { Listed n owners.now prices.now entitled.now likes.now × Sized self.old.first self.old.sets }
+        requires { Listed n owners.now prices.now entitled.now likes.now }
         ensures { Firsts n (length owners.now) (owner_of owners.now) (has_trait prices.now entitled.now likes.now view.free view.grouped view.mid view.top) self.new.first self.new.sets }
     {
         // No trait has a chore yet, for which the number of chores stands.
@@ -65,7 +65,7 @@ impl Table {
         c: usize,
         missing: u64,
     ) -> u64
-        requires { Listed max_agents owners.now prices.now entitled.now likes.now × Spot self.old.first w missing × (c < length owners.now) }
+        requires { Listed max_agents owners.now prices.now entitled.now likes.now × (w < max_agents) × (missing < 2 ^ trait_count) × (c < length owners.now) }
         ensures row { SearchedOn (length owners.now) (owner_of owners.now) (has_trait prices.now entitled.now likes.now view.free view.grouped view.mid view.top) w c missing result self.old.first self.new.first }
         ensures sets { self.new.sets ≡ self.old.sets }
     {
@@ -95,7 +95,7 @@ impl Table {
         c: usize,
         word: u64,
     )
-        requires listed { Listed max_agents owners.now prices.now entitled.now likes.now × Sized self.old.first self.old.sets × (w < max_agents) × (c < length owners.now) }
+        requires listed { Listed max_agents owners.now prices.now entitled.now likes.now × (w < max_agents) × (c < length owners.now) }
         requires set_of { SetOf trait_count word (λ t. has_trait prices.now entitled.now likes.now view.free view.grouped view.mid view.top t c) }
         ensures { Lost (length owners.now) (owner_of owners.now) (has_trait prices.now entitled.now likes.now view.free view.grouped view.mid view.top) w c self.old.first self.old.sets self.new.first self.new.sets }
     {
@@ -116,7 +116,7 @@ impl Table {
         chore: usize,
         u: usize,
     )
-        requires { Listed max_agents owners.old prices.now entitled.now likes.now × Sized self.old.first self.old.sets × (chore < length owners.old) × (u < max_agents) }
+        requires { Listed max_agents owners.old prices.now entitled.now likes.now × (chore < length owners.old) × (u < max_agents) }
         ensures { HandedOn (has_trait prices.now entitled.now likes.now view.free view.grouped view.mid view.top) chore u owners.old self.old.first self.old.sets owners.new self.new.first self.new.sets }
     {
         let w = owners[chore] as usize - 1;
@@ -128,7 +128,7 @@ impl Table {
 
     // Agent w's first chore with trait t.
     pub fn first_of(&self, w: usize, t: usize) -> usize
-        requires { (length self.now.first ≡ max_agents * trait_count) × (w < max_agents) × (t < trait_count) }
+        requires { (w < max_agents) × (t < trait_count) }
         ensures { result ≡ get_or self.now.first (w * trait_count + t) 0 }
     {
         self.first[w * TRAITS + t] as usize

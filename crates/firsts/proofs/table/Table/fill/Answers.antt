@@ -1,4 +1,4 @@
-use Rattle.std.proofs.Common.{◌≡◌, ◌-◌, ◌<◌, length, get_or, refl, arith}
+use Rattle.std.proofs.Common.{◌≡◌, ◌-◌, ◌<◌, length, get_or, refl, arith, rules}
 use Rattle.model.specs.Instance.{owner_of}
 use Rattle.market.specs.Market.{entitled_of}
 use Rattle.firsts.specs.Traits.{has_trait}
@@ -7,13 +7,13 @@ use Rattle.firsts.proofs.table.Table.fill.Goals as goal
 use Rattle.firsts.proofs.table.Table.fill.Goals.{else-self-w, then-self-w}
 
 pub loop-c-init : goal.loop-c-init
-loop-c-init c = rw (c.fill.ensures.after (λ y h. h), c.fill-2.ensures.after (λ y h. h)) (filled_none _ _ _ _ c.requires.1 c.requires.0.agents)
+loop-c-init c = rw (c.fill.ensures.after (λ y h. h), c.fill-2.ensures.after (λ y h. h)) (filled_none _ _ _ _ (record { first_sized = search rules; sets_sized = search rules }) c.requires.agents)
 
 pub loop-c-preserved : goal.loop-c-preserved
 unfolding owner_of has_trait entitled_of
 loop-c-preserved c =
     let args = c.args in
-    let pre = c.requires.0 in
+    let pre = c.requires in
     let at = c.loop-c in
     let x = owner_of args.owners.now in
     let trait = has_trait args.prices.now args.entitled.now args.likes.now args.view.free args.view.grouped args.view.mid args.view.top in

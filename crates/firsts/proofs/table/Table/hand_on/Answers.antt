@@ -14,4 +14,4 @@ pub returns : goal.returns
 unfolding owner_of has_trait entitled_of
 returns c =
     let pre = c.requires in
-    handed_on c.args.owners.now pre.2 refl pre.3 c.traits-word.ensures c.lose.ensures c.gain.ensures
+    handed_on c.args.owners.now pre.1 refl pre.2 c.traits-word.ensures c.lose.ensures c.gain.ensures

@@ -9,7 +9,7 @@ use Rattle.firsts.proofs.table.Table.search_on.Goals as goal
 use Rattle.firsts.proofs.table.Table.search_on.Goals.{else-owners-k, then-owners-k}
 
 pub loop-k-init : goal.loop-k-init
-loop-k-init c = record { row = searched_none _ _ _ _ _ c.requires.1.traits; sets = refl }
+loop-k-init c = record { row = searched_none _ _ _ _ _ c.requires.2; sets = refl }
 
 pub loop-k-preserved : goal.loop-k-preserved
 unfolding owns owner_of has_trait entitled_of
