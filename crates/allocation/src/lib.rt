@@ -1,7 +1,7 @@
 // The share-out: Algorithm 1 on a sheet.
 #![tactic(auto)]
 
-ghost use Rattle.std.specs.Prelude.{◌≤◌, ◌≡◌, length};
+ghost use Rattle.std.specs.Prelude.{◌≤◌, ◌≡◌, length, IfOk};
 ghost use Rattle.model.specs.Limits.{max_chores, scratch_size};
 ghost use Rattle.model.specs.Sheet.{chores_of};
 ghost use Rattle.model.specs.RefusalNumbers.{number_of};
@@ -12,6 +12,7 @@ ghost use Rattle.allocation.specs.Shared.{Sharing, Working, Long, Shared, Shared
 use model::{Refusal, ShareOut};
 use opening::open;
 use runs::run;
+use sheet::valid::Sheet;
 use steps::Stand;
 use totals::clear;
 
@@ -20,7 +21,7 @@ const FEW: usize = 200;
 
 // The opening and the run, with working lists of the lengths that the sheet asks for.
 fn share_with(
-    sheet: &[u8],
+    sheet: &Sheet,
     owners: &mut [u8],
     prices: &mut [u32],
     groups: &mut [u8],
@@ -33,9 +34,7 @@ fn share_with(
     requires scratch_len { length scratch.old ≡ scratch_size }
     ensures { Shared sheet.now owners.new prices.new «record».old «record».new result.moves result.cuts }
 {
-    let n = sheet::agents(sheet);
-    let m = sheet::chores(sheet);
-    open(sheet, n, m, owners, prices, likes);
+    open(sheet, owners, prices, likes);
     run(
         sheet, owners, prices, groups, entitled, likes, scratch, record,
     )
@@ -43,7 +42,7 @@ fn share_with(
 
 // With lists that are long enough: what is behind the entries that the sheet asks for stays as it is.
 fn share_in(
-    sheet: &[u8],
+    sheet: &Sheet,
     owners: &mut [u8],
     prices: &mut [u32],
     entitled: &mut [u8],
@@ -55,8 +54,8 @@ fn share_in(
     requires scratch_len { length scratch.old ≡ scratch_size }
     ensures { Shared sheet.now owners.new prices.new «record».old «record».new result.moves result.cuts }
 {
-    let n = sheet::agents(sheet);
-    let m = sheet::chores(sheet);
+    let n = sheet.agents();
+    let m = sheet.chores();
     let mut groups = [0; model::MAX_AGENTS];
     share_with(
         sheet,
@@ -72,7 +71,7 @@ fn share_in(
 
 // With lists for so many chores.
 fn share_in_room<const CHORES: usize>(
-    sheet: &[u8],
+    sheet: &Sheet,
     owners: &mut [u8],
     prices: &mut [u32],
     scratch: &mut [u8],
@@ -99,7 +98,7 @@ fn share_in_room<const CHORES: usize>(
 // The share-out of a sheet that breaks no rule, into lists of one entry for each chore. With few chores it is over in the time that it takes to
 // clear lists for many.
 pub fn share(
-    sheet: &[u8],
+    sheet: &Sheet,
     owners: &mut [u8],
     prices: &mut [u32],
     scratch: &mut [u8],
@@ -109,27 +108,34 @@ pub fn share(
     requires scratch_len { length scratch.old ≡ scratch_size }
     ensures { Shared sheet.now owners.new prices.new «record».old «record».new result.moves result.cuts }
 {
-    if sheet::chores(sheet) <= FEW {
+    if sheet.chores() <= FEW {
         share_in_room::<FEW>(sheet, owners, prices, scratch, record)
     } else {
         share_in_room::<{ model::MAX_CHORES }>(sheet, owners, prices, scratch, record)
     }
 }
 
-// What a share-out is turned down for.
-pub fn admit(sheet: &[u8], owners: usize, prices: usize, scratch: usize) -> Result<(), Refusal>
-    ensures { number_of result ≡ allocate_refusal sheet.now owners prices scratch }
+// The sheet, or what its share-out is turned down for.
+pub fn admit(
+    bytes: &[u8],
+    owners: usize,
+    prices: usize,
+    scratch: usize,
+) -> Result<Sheet<'_>, Refusal>
+    ensures number { number_of result ≡ allocate_refusal bytes.now owners prices scratch }
+    ensures same { IfOk result (λ sheet. sheet ≡ bytes.now) }
 {
-    sheet::admit_sheet(sheet)?;
-    let m = sheet::chores(sheet);
+    let sheet = Sheet::read(bytes)?;
+    let m = sheet.chores();
     sheet::admit_lent(m, owners)?;
     sheet::admit_lent(m, prices)?;
-    sheet::admit_lent(model::SCRATCH_SIZE, scratch)
+    sheet::admit_lent(model::SCRATCH_SIZE, scratch)?;
+    Ok(sheet)
 }
 
 // The share-out of what is not turned down, with or without a record of its moves.
 pub fn share_out(
-    sheet: &[u8],
+    sheet: &Sheet,
     owners: &mut [u8],
     prices: &mut [u32],
     scratch: &mut [u8],
@@ -138,7 +144,7 @@ pub fn share_out(
     requires { allocate_refusal sheet.now (length owners.old) (length prices.old) (length scratch.old) ≡ 0 }
     ensures { SharedWith sheet.now owners.old prices.old scratch.old «record».old owners.new prices.new scratch.new «record».new result }
 {
-    let m = sheet::chores(sheet);
+    let m = sheet.chores();
     let counts = share(
         sheet,
         &mut owners[0..m],
@@ -161,6 +167,6 @@ pub fn allocate(
 ) -> Result<ShareOut, Refusal>
     ensures { Allocated sheet.now owners.old prices.old scratch.old owners.new prices.new scratch.new result }
 {
-    admit(sheet, owners.len(), prices.len(), scratch.len())?;
-    Ok(share_out(sheet, owners, prices, scratch, &mut []))
+    let sheet = admit(sheet, owners.len(), prices.len(), scratch.len())?;
+    Ok(share_out(&sheet, owners, prices, scratch, &mut []))
 }

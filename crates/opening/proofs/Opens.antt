@@ -35,7 +35,7 @@ pub record OpensAt (s : List ℕ) (c price likes : ℕ) : Type 0 where
   pub priced : price ≡ opening_price (as_read s) c
   pub liked : SetOf (agents_of s) likes (λ i. ok (as_read s) i c)
 
-module _ (s : List ℕ) (c : ℕ) {n easy : ℕ} (e : n ≡ agents_of s) (found : SetOf (agents_of s) easy (λ i. (as_read s).easy i c)) where
+module _ (s : List ℕ) (c : ℕ) {easy : ℕ} (found : SetOf (agents_of s) easy (λ i. (as_read s).easy i c)) where
   some_easy : any_below (agents_of s) (λ i. (as_read s).easy i c) ≡ not (eqb easy 0)
   some_easy = set_some found
 
@@ -45,10 +45,9 @@ module _ (s : List ℕ) (c : ℕ) {n easy : ℕ} (e : n ≡ agents_of s) (found 
   some : (easy ≡ 0 → ⊥) → any_below (agents_of s) (λ i. (as_read s).easy i c) ≡ true
   some z = some_easy ∙ ap not (ne_eqb easy 0 z)
 
-  pub owner_opens : {counts : List ℕ} {owner : ℕ} → agents_of s ≤ max_agents → Table max_agents (bundle_size c (opening_owner (as_read s))) counts → OpensWith n easy counts owner → owner ≡ opening_owner (as_read s) c
+  pub owner_opens : {counts : List ℕ} {owner : ℕ} → agents_of s ≤ max_agents → Table max_agents (bundle_size c (opening_owner (as_read s))) counts → OpensWith (agents_of s) easy counts owner → owner ≡ opening_owner (as_read s) c
   unfolding opens_with fewest as_read
-  owner_opens {counts} {owner} few t o =
-      let is : OpensWith (agents_of s) easy counts owner = rw e at o in
+  owner_opens {counts} few t is =
       let count : (i : ℕ) → i < agents_of s → get_or counts i 0 ≡ bundle_size c (opening_owner (as_read s)) i = λ i l. t.entry i (omega arith) in
       by_same easy 0
       (λ z. is.dear z ∙ chosen_cong (agents_of s) (λ i l. refl) (λ j i k l. ap₂ ltb (count j k) (count i l)) ∙ sym (cond_false _ _ (none z)))
@@ -56,12 +55,12 @@ module _ (s : List ℕ) (c : ℕ) {n easy : ℕ} (e : n ≡ agents_of s) (found 
       ∙ sym (opens_after (as_read s) c)
 
   -- nobody finds the chore easy
-  pub opens_dear : {b all : ℕ} → easy ≡ 0 → b ≡ difficult_weight s → SetOf n all (λ i. true) → OpensAt s c (b * b) all
+  pub opens_dear : {b all : ℕ} → easy ≡ 0 → b ≡ difficult_weight s → SetOf (agents_of s) all (λ i. true) → OpensAt s c (b * b) all
   unfolding opening_price ok dear as_read
   opens_dear {b} {all} z w everyone =
       record {
         priced = rw (none z, w);
-        liked = set_cong (λ i l. sym (rw (none z) (or_right ((as_read s).easy i c) refl))) (rw e at everyone);
+        liked = set_cong (λ i l. sym (rw (none z) (or_right ((as_read s).easy i c) refl))) everyone;
       }
 
   -- somebody does
@@ -102,9 +101,9 @@ module _ {s counts owners prices likes : List ℕ} where
       }
 
   -- the agents who find the next chore easy: those who mark it so, and those whose row is all difficult
-  pub easy_next : {k n all : ℕ} → Opens s k counts owners prices likes → k < chores_of s → n ≡ agents_of s → SetOf n all (all_difficult s) → SetOf (agents_of s) (bit_or (get_or likes k 0) all) (λ i. (as_read s).easy i k)
+  pub easy_next : {k all : ℕ} → Opens s k counts owners prices likes → k < chores_of s → SetOf (agents_of s) all (all_difficult s) → SetOf (agents_of s) (bit_or (get_or likes k 0) all) (λ i. (as_read s).easy i k)
   unfolding as_read
-  easy_next {k} d l e rows = set_or (d.marked k (omega arith) l) (rw e at rows)
+  easy_next {k} d l rows = set_or (d.marked k (omega arith) l) rows
 
   -- nobody holds more than the chores opened
   pub count_room : {k i : ℕ} → Opens s k counts owners prices likes → i < max_agents → get_or counts i 0 ≤ k

@@ -3,23 +3,18 @@ use Rattle.std.specs.Prelude.{ℕ, ◌+◌, ◌*◌, ◌≤◌, ◌<◌, true, L
 use Rattle.finite.specs.Bits.{bit, SetOf}
 use Rattle.finite.specs.Search.{first_below, chosen}
 use Rattle.finite.specs.Lists.{tabulate}
+use Rattle.model.specs.Limits.{max_agents}
 use Rattle.model.specs.Sheet.{agents_of, chores_of, marks_easy, as_read}
 use Rattle.model.specs.Algorithm.{opening_owner, opening_price}
-use Rattle.sheet.specs.Valid.{Valid}
-use Rattle.sheet.specs.Readers.{RowInSheet}
 use Rattle.market.specs.Market.{Liked}
 
-pub record OpenOn (s : List ℕ) (n m : ℕ) : Type 0 where
-  pub valid : Valid s
-  pub agents : n ≡ agents_of s
-  pub chores : m ≡ chores_of s
-
 -- the first `count` marks of byte k of agent i's row
-pub record ByteOf (s : List ℕ) (m i k count : ℕ) : Type 0 where
-  pub row : RowInSheet s m i
+pub record ByteOf (s : List ℕ) (i k count : ℕ) : Type 0 where
+  pub agent : i < agents_of s
+  pub slot : i < max_agents
   pub some : 0 < count
   pub most : count ≤ 8
-  pub within : 8 * k + count ≤ m
+  pub within : 8 * k + count ≤ chores_of s
 
 -- for each chore, of the first i agents those who mark it easy; agent i's marks are in too for the chores before c
 pub record Marked (s : List ℕ) (i c : ℕ) (likes : List ℕ) : Type 0 where
@@ -33,11 +28,10 @@ pub record OpensWith (n easy : ℕ) (held : List ℕ) (owner : ℕ) : Type 0 whe
   pub dear : easy ≡ 0 → owner ≡ chosen n (λ i. true) (λ j i. ltb (get_or held j 0) (get_or held i 0))
 
 -- an entry for each chore in each list that the opening fills, and nobody likes any yet
-pub record OpenInto (s : List ℕ) (n m : ℕ) (owners prices likes : List ℕ) : Type 0 where
-  pub on : OpenOn s n m
-  pub owners_sized : length owners ≡ m
-  pub prices_sized : length prices ≡ m
-  pub no_likes : likes ≡ replicate m 0
+pub record OpenInto (s owners prices likes : List ℕ) : Type 0 where
+  pub owners_sized : length owners ≡ chores_of s
+  pub prices_sized : length prices ≡ chores_of s
+  pub no_likes : likes ≡ replicate (chores_of s) 0
 
 pub record Opened (s owners prices likes : List ℕ) : Type 0 where
   pub opens_owners : owners ≡ tabulate (chores_of s) (λ c. opening_owner (as_read s) c + 1)

@@ -1,25 +1,24 @@
 // The share-out with a record of its moves.
 #![tactic(auto)]
 
-ghost use Rattle.std.specs.Prelude.{◌≡◌, length};
+ghost use Rattle.std.specs.Prelude.{◌≡◌, length, IfOk};
 ghost use Rattle.model.specs.Sheet.{agents_of, chores_of};
 ghost use Rattle.model.specs.MostMoves.{most_moves};
 ghost use Rattle.model.specs.RefusalNumbers.{number_of};
 ghost use Rattle.model.specs.Refusals.{recorded_refusal};
 ghost use Rattle.model.specs.Promises.{Recorded};
-ghost use Rattle.sheet.specs.Valid.{Valid};
 ghost use Rattle.recorded.specs.Moves.{moves_for};
 
 use model::{Refusal, ShareOut};
+use sheet::valid::Sheet;
 
 // How many moves a share-out takes, by a run on lists of its own: nothing lent may be written before the record is known to have room. Not inlined:
 // its lists leave the stack before the share-out that records makes its own.
 #[inline(never)]
-fn count_moves(sheet: &[u8]) -> u64
-    requires { Valid sheet.now }
+fn count_moves(sheet: &Sheet) -> u64
     ensures { result ≡ length (moves_for sheet.now) }
 {
-    let m = sheet::chores(sheet);
+    let m = sheet.chores();
     let mut owners = [0; model::MAX_CHORES];
     let mut prices = [0; model::MAX_CHORES];
     let mut scratch = [0; model::SCRATCH_SIZE];
@@ -35,30 +34,31 @@ fn count_moves(sheet: &[u8]) -> u64
 
 // No run takes more.
 #[tactic(auto, unfolding(model::specs::MostMoves::most_moves, model::specs::MostMoves::round_moves))]
-fn most_moves(sheet: &[u8]) -> u64
-    requires { Valid sheet.now }
+fn most_moves(sheet: &Sheet) -> u64
     ensures { result ≡ most_moves (agents_of sheet.now) (chores_of sheet.now) }
 {
-    let n = sheet::agents(sheet);
-    let m = sheet::chores(sheet);
+    let n = sheet.agents();
+    let m = sheet.chores();
     (n * ((n - 1) * m)) as u64
 }
 
-// What a share-out with a record is turned down for. Where there is room for the most moves, none are counted.
+// The sheet, or what its share-out with a record is turned down for. Where there is room for the most moves, none are counted.
 fn admit(
     sheet: &[u8],
     owners: usize,
     prices: usize,
     scratch: usize,
     bytes: usize,
-) -> Result<(), Refusal>
-    ensures { number_of result ≡ recorded_refusal sheet.now owners prices scratch (length (moves_for sheet.now)) bytes }
+) -> Result<Sheet<'_>, Refusal>
+    ensures number { number_of result ≡ recorded_refusal sheet.now owners prices scratch (length (moves_for sheet.now)) bytes }
+    ensures same { IfOk result (λ read. read ≡ sheet.now) }
 {
-    allocation::admit(sheet, owners, prices, scratch)?;
-    if records::admit_moves(most_moves(sheet), bytes).is_ok() {
-        return Ok(());
+    let sheet = allocation::admit(sheet, owners, prices, scratch)?;
+    if records::admit_moves(most_moves(&sheet), bytes).is_ok() {
+        return Ok(sheet);
     }
-    records::admit_moves(count_moves(sheet), bytes)
+    records::admit_moves(count_moves(&sheet), bytes)?;
+    Ok(sheet)
 }
 
 pub fn allocate_recorded(
@@ -70,12 +70,12 @@ pub fn allocate_recorded(
 ) -> Result<ShareOut, Refusal>
     ensures { Recorded sheet.now owners.old prices.old scratch.old «record».old owners.new prices.new scratch.new «record».new result }
 {
-    admit(
+    let sheet = admit(
         sheet,
         owners.len(),
         prices.len(),
         scratch.len(),
         record.len(),
     )?;
-    Ok(allocation::share_out(sheet, owners, prices, scratch, record))
+    Ok(allocation::share_out(&sheet, owners, prices, scratch, record))
 }

@@ -11,10 +11,11 @@ ghost use Rattle.runs.specs.Runs.{Running, Kit, RunEnds, Begun};
 use firsts::table::Table;
 use records::note;
 use seeking::view_of;
+use sheet::valid::Sheet;
 use steps::{Stand, Turn, fill_table, step};
 
 // Where a run starts: in 2b, before its first move.
-fn begin(sheet: &[u8], groups: &[u8]) -> Stand
+fn begin(sheet: &Sheet, groups: &[u8]) -> Stand
     requires { Valid sheet.now × (length groups.now ≡ agents_of sheet.now) }
     ensures { Begun sheet.now groups.now result }
 {
@@ -29,7 +30,7 @@ fn begin(sheet: &[u8], groups: &[u8]) -> Stand
 // From the opening to the stop in 2b. How many turns that takes is not known before, so the loop has a measure and no range. A cut starts 2a at
 // the group before the new one. Moves that the record has no room for are counted only.
 fn take_turns(
-    sheet: &[u8],
+    sheet: &Sheet,
     owners: &mut [u8],
     prices: &mut [u32],
     groups: &mut [u8],
@@ -69,7 +70,7 @@ fn take_turns(
 
 // The run, with its table.
 pub fn run(
-    sheet: &[u8],
+    sheet: &Sheet,
     owners: &mut [u8],
     prices: &mut [u32],
     groups: &mut [u8],

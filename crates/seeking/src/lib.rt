@@ -15,15 +15,16 @@ use market::choices::{greatest_in, least_after};
 use market::sums::{any_above, by_group, least_of};
 use market::words::lowest;
 use rings::search::search;
+use sheet::valid::Sheet;
 use totals::lanes::add_up;
 
 // The view of a state, that its table goes by: the agents by their groups, and the prices that there are.
-pub fn view_of(sheet: &[u8], groups: &[u8]) -> View
+pub fn view_of(sheet: &Sheet, groups: &[u8]) -> View
     requires { Valid sheet.now × (length groups.now ≡ agents_of sheet.now) }
     ensures { Views sheet.now groups.now result.free result.grouped result.low result.mid result.top }
 {
-    let a = sheet::easy_weight(sheet);
-    let b = sheet::difficult_weight(sheet);
+    let a = sheet.easy_weight();
+    let b = sheet.difficult_weight();
     let sides = by_group(groups);
     View {
         free: sides.free,
@@ -36,7 +37,7 @@ pub fn view_of(sheet: &[u8], groups: &[u8]) -> View
 
 // Each agent's price sum, and its price up to one.
 fn weigh(
-    sheet: &[u8],
+    sheet: &Sheet,
     owners: &[u8],
     prices: &[u32],
     sets: &[u64],
@@ -49,7 +50,7 @@ fn weigh(
     ensures { Summed (agents_of sheet.now) owners.now prices.now sums.new ups.new }
 {
     add_up(owners, prices, sums);
-    rests(sheet::agents(sheet), sums, sets, view, ups);
+    rests(sheet.agents(), sums, sets, view, ups);
 }
 
 // A move: the giver, the receiver, and the trait of the chore that goes.
@@ -71,7 +72,7 @@ pub enum Due {
 
 // What is due in 2b: the receiver is the lowest of those whom the search found.
 fn look(
-    sheet: &[u8],
+    sheet: &Sheet,
     owners: &[u8],
     prices: &[u32],
     sets: &[u64],
@@ -82,7 +83,7 @@ fn look(
     requires scratch_len { length scratch.old ≡ scratch_size }
     ensures { (groups : List ℕ) → IsDue sheet.now owners.now prices.now groups 0 result scratch.old scratch.new }
 {
-    let n = sheet::agents(sheet);
+    let n = sheet.agents();
     let mut sums = [0; model::MAX_AGENTS];
     let mut ups = [0; model::MAX_AGENTS];
     weigh(sheet, owners, prices, sets, view, &mut sums, &mut ups);
@@ -103,7 +104,7 @@ fn look(
 
 // The move that is due in 2a at the group at work, if one is: what goes is not entitled.
 fn choose(
-    sheet: &[u8],
+    sheet: &Sheet,
     owners: &[u8],
     prices: &[u32],
     groups: &[u8],
@@ -134,7 +135,7 @@ fn choose(
 
 // What is due.
 pub fn seek(
-    sheet: &[u8],
+    sheet: &Sheet,
     owners: &[u8],
     prices: &[u32],
     groups: &[u8],

@@ -13,6 +13,7 @@ use firsts::traits::View;
 use market::cuts::{cut_groups, cut_prices};
 use rings::line::reached;
 use seeking::{Due, Move, seek, view_of};
+use sheet::valid::Sheet;
 
 // What a step did. A move tells its chore, giver and receiver, counted from 0.
 #[derive(Clone, Copy)]
@@ -38,7 +39,7 @@ pub struct Stand {
 
 // The table of first chores, worked out anew.
 pub fn fill_table(
-    sheet: &[u8],
+    sheet: &Sheet,
     owners: &[u8],
     prices: &[u32],
     groups: &[u8],
@@ -49,7 +50,7 @@ pub fn fill_table(
     requires { Filling sheet.now owners.now prices.now groups.now entitled.now likes.now table.old.first table.old.sets }
     ensures { Tabled sheet.now owners.now prices.now groups.now entitled.now likes.now table.new.first table.new.sets }
 {
-    let n = sheet::agents(sheet);
+    let n = sheet.agents();
     let view = view_of(sheet, groups);
     table.fill(n, owners, prices, entitled, likes, view);
 }
@@ -83,7 +84,7 @@ fn hand_over(
 
 // The price cut of step 3: whoever stands in line becomes a group.
 fn cut(
-    sheet: &[u8],
+    sheet: &Sheet,
     owners: &[u8],
     prices: &mut [u32],
     groups: &mut [u8],
@@ -94,16 +95,16 @@ fn cut(
     requires { Cutting sheet.now owners.now prices.old groups.old entitled.old scratch.now cuts }
     ensures { CutOff sheet.now owners.now prices.old groups.old entitled.old scratch.now cuts prices.new groups.new entitled.new }
 {
-    let group = reached(sheet::agents(sheet), scratch);
-    let a = sheet::easy_weight(sheet);
-    let b = sheet::difficult_weight(sheet);
+    let group = reached(sheet.agents(), scratch);
+    let a = sheet.easy_weight();
+    let b = sheet.difficult_weight();
     cut_prices(owners, prices, entitled, group, a, b);
     cut_groups(groups, group, cuts + 1);
 }
 
 // One step: a move of 2a or 2b, on to the next group in 2a, the cut, or the end.
 pub fn step(
-    sheet: &[u8],
+    sheet: &Sheet,
     owners: &mut [u8],
     prices: &mut [u32],
     groups: &mut [u8],

@@ -4,7 +4,7 @@ use Prim.Native.Nat.{ℕ, ◌*◌, ◌≤◌}
 use mathlib.Core.List.{List}
 use mathlib.Core.Path.{◌≡◌, sym, ◌∙◌}
 use native.Mathlib.Omega.{arith}
-use lib.ListN.{take, replicate}
+use lib.ListN.{length, take, replicate}
 use lib.Seq.{length-take-le}
 use Rattle.std.specs.Prelude.{Option, Result, Ok, Err, OnOk}
 use Rattle.std.specs.Io.KnownBytes.{Appends}
@@ -15,6 +15,7 @@ use Rattle.model.specs.Limits.{max_chores}
 use Rattle.model.specs.Sheet.{agents_of, chores_of, as_read}
 use Rattle.model.specs.Algorithm.{opening}
 use Rattle.model.specs.Record.{Move, move_size, record_of}
+use Rattle.sheet.specs.Valid.{Valid}
 use Rattle.opening.specs.Opened.{OpenInto}
 use Rattle.recorded.specs.Moves.{moves_for}
 use Rattle.allocation.specs.Final.{final_of}
@@ -24,17 +25,15 @@ use Rattle.pages.specs.Printer.{text_of}
 use Rattle.pages.specs.Answered.{Left}
 use Rattle.pages.proofs.Answering.{accepted_text}
 use Rattle.why.specs.Page.{run_lines}
-use Rattle.why.specs.Told.{printer, Openable, Noted}
+use Rattle.why.specs.Told.{printer, Noted}
 
 -- lists of an entry for each chore, cut from longer ones
-pub opening_into : {s owners : List ℕ} {n m : ℕ} → Openable s owners → n ≡ agents_of s → m ≡ chores_of s → OpenInto s n m owners (take m (replicate max_chores 0)) (take m (replicate max_chores 0))
-opening_into {m = m} O a b =
-    let few : m ≤ max_chores = omega (arith, O.valid.chores_fit) in
+pub opening_into : {s owners : List ℕ} {m : ℕ} → Valid s → length owners ≡ chores_of s → m ≡ chores_of s → OpenInto s owners (take m (replicate max_chores 0)) (take m (replicate max_chores 0))
+opening_into {s} {m = m} ok sized b =
     record {
-      on = record { valid = O.valid; agents = a; chores = b };
-      owners_sized = O.sized ∙ sym b;
-      prices_sized = length-take-le m (replicate max_chores 0) (omega (arith, length-replicate {A = ℕ} max_chores 0));
-      no_likes = take-replicate m max_chores 0 few;
+      owners_sized = sized;
+      prices_sized = rw b (length-take-le (chores_of s) (replicate max_chores 0) (omega (arith, ok.chores_fit, length-replicate {A = ℕ} max_chores 0)));
+      no_likes = rw b (take-replicate (chores_of s) max_chores 0 ok.chores_fit);
     }
 
 -- the lines of a run, one after the other

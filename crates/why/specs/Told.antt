@@ -28,11 +28,6 @@ pub unbroken : Unbroken printer
 unfolding run_refusal
 unbroken s z = (or_else_zero (sheet_refusal s) (record_refusal (length (moves_for s)) record_size) z).0
 
--- an entry for each chore of a sheet that breaks no rule
-pub record Openable (s owners : List ℕ) : Type 0 where
-  pub valid : Valid s
-  pub sized : length owners ≡ chores_of s
-
 -- the moves of an accepted sheet stand first in the record that was lent
 pub record Noted (s bytes : List ℕ) : Type 0 where
   pub sized : length bytes ≡ record_size

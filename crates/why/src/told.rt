@@ -7,23 +7,23 @@ ghost use Rattle.model.specs.Record.{Move, record_of};
 ghost use Rattle.pages.specs.Printer.{text_of};
 ghost use Rattle.pages.specs.Answered.{Left, Answered};
 ghost use Rattle.why.specs.Page.{run_lines};
-ghost use Rattle.why.specs.Told.{printer, Openable, Noted, NotedIf};
+ghost use Rattle.why.specs.Told.{printer, Noted, NotedIf};
 
 use model::{Refusal, ShareOut};
+use sheet::valid::Sheet;
 use std::io;
 use std::io::Write;
 use text::{lines, moves};
 
 // The opening list. Its prices, and who likes what, are left here.
-fn opening_owners(sheet: &[u8], owners: &mut [u8])
-    requires { Openable sheet.now owners.old }
+fn opening_owners(sheet: &Sheet, owners: &mut [u8])
+    requires { length owners.old ≡ chores_of sheet.now }
     ensures { owners.new ≡ (opening (as_read sheet.now)).owners }
 {
-    let n = sheet::agents(sheet);
-    let m = sheet::chores(sheet);
+    let m = sheet.chores();
     let mut prices = [0; model::MAX_CHORES];
     let mut likes = [0; model::MAX_CHORES];
-    opening::open(sheet, n, m, owners, &mut prices[..m], &mut likes[..m]);
+    opening::open(sheet, owners, &mut prices[..m], &mut likes[..m]);
 }
 
 fn run_lines<W: Write>(
@@ -46,7 +46,7 @@ fn run_lines<W: Write>(
 
 // An accepted sheet: its entries stand first in the lists, and its moves in the record.
 fn shared_text<W: Write>(
-    sheet: &[u8],
+    sheet: &Sheet,
     number: u64,
     out: ShareOut,
     owners: &[u8],
@@ -58,7 +58,7 @@ fn shared_text<W: Write>(
     requires noted { Noted sheet.now bytes.now }
     ensures { OnOk result (Appends (W.contents to.old) (W.contents to.new) (text_of printer sheet.now number)) }
 {
-    let m = sheet::chores(sheet);
+    let m = sheet.chores();
     let end = model::MOVE_SIZE * out.moves as usize;
     let mut opened = [0; model::MAX_CHORES];
     let opened = &mut opened[..m];
@@ -88,7 +88,10 @@ pub fn answer_text<W: Write>(
     ensures { OnOk result (Appends (W.contents to.old) (W.contents to.new) (text_of printer sheet.now number)) }
 {
     match answer {
-        Ok(out) => shared_text(sheet, number, out, owners, prices, bytes, to),
+        Ok(out) => {
+            let sheet = Sheet::read(sheet).unwrap();
+            shared_text(&sheet, number, out, owners, prices, bytes, to)
+        }
         Err(refusal) => lines::refused_line(number, refusal, to),
     }
 }

@@ -5,9 +5,6 @@ use Rattle.model.specs.Limits.{scratch_size}
 use Rattle.allocation.proofs.Accepting.{is_fine, shared_out}
 use Rattle.allocation.proofs.share_out.Goals as goal
 
-pub chores-m-requires : goal.chores-m-requires
-chores-m-requires c = (is_fine _ _ _ _ c.requires).valid.header
-
 pub slice_bounds-share-end : goal.slice_bounds-share-end
 slice_bounds-share-end c = search (rules, c.chores-m.ensures.is, (is_fine _ _ _ _ c.requires).owners_room)
 

@@ -11,10 +11,10 @@ product_fits : {x y : ℕ} → x ≤ max_weight → y ≤ max_weight → x * y <
 product_fits h l = omega (arith, mul-le-mul h l)
 
 easy : (c : After-difficult_weight-b) → c.easy_weight-a.result ≤ max_weight
-easy c = let valid = c.requires.0 in omega (arith, c.easy_weight-a.ensures.is, valid.easier, valid.weight_fits)
+easy c = let valid = c.requires.0 in omega (arith, c.easy_weight-a.ensures, valid.easier, valid.weight_fits)
 
 difficult : (c : After-difficult_weight-b) → c.difficult_weight-b.result ≤ max_weight
-difficult c = omega (arith, c.difficult_weight-b.ensures.is, c.requires.0.weight_fits)
+difficult c = omega (arith, c.difficult_weight-b.ensures, c.requires.0.weight_fits)
 
 pub overflow_mul-result : goal.overflow_mul-result
 overflow_mul-result c = let at = (goal.at.overflow_mul-result c).After-difficult_weight-b in record { fits = product_fits (easy at) (easy at) }
@@ -27,6 +27,6 @@ overflow_mul-result-3 c = let at = (goal.at.overflow_mul-result-3 c).After-diffi
 
 pub returns : goal.returns
 returns c =
-    let a = c.easy_weight-a.ensures.is in
-    let b = c.difficult_weight-b.ensures.is in
+    let a = c.easy_weight-a.ensures in
+    let b = c.difficult_weight-b.ensures in
     record { sides = rw c.requires.1 at c.by_group-sides.ensures; low_is = ap₂ ◌*◌ a a; mid_is = ap₂ ◌*◌ a b; top_is = ap₂ ◌*◌ b b }

@@ -4,7 +4,7 @@ use Rattle.why.proofs.Telling.{opening_into}
 use Rattle.why.proofs.told.opening_owners.Goals as goal
 
 pub open-requires : goal.open-requires
-open-requires c = opening_into c.requires c.agents-n.ensures.is c.chores-m.ensures.is
+open-requires c = opening_into c.chores-m.ensures.valid c.requires c.chores-m.ensures.is
 
 pub returns : goal.returns
 unfolding opening as_read
