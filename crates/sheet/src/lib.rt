@@ -88,7 +88,7 @@ pub fn row(sheet: &[u8], m: usize, i: usize) -> &[u8]
 }
 
 // Byte k of agent i's row.
-pub fn row_byte(sheet: &[u8], m: usize, i: usize, k: usize) -> u8
+fn row_byte(sheet: &[u8], m: usize, i: usize, k: usize) -> u8
     requires row_in_sheet { RowInSheet sheet.now m i }
     requires k_bound { k < bytes_for m }
     ensures { Read (get_or (row_of sheet.now i) k 0) 256 result }
@@ -105,14 +105,14 @@ pub fn mark_in(byte: u8, j: usize) -> u8
 }
 
 // Agent i's mark for chore c. The caller passes the number of chores, since a search asks for many marks of one sheet.
-pub fn mark_at(sheet: &[u8], m: usize, i: usize, c: usize) -> u8
+fn mark_at(sheet: &[u8], m: usize, i: usize, c: usize) -> u8
     requires { InSheet sheet.now m i c }
     ensures { result ≡ cond (is_difficult sheet.now i c) 1 0 }
 {
     mark_in(row_byte(sheet, m, i, c / 8), c % 8)
 }
 
-pub fn marks_easy(sheet: &[u8], m: usize, i: usize, c: usize) -> bool
+fn marks_easy(sheet: &[u8], m: usize, i: usize, c: usize) -> bool
     requires { InSheet sheet.now m i c }
     ensures { result ≡ marks_easy sheet.now i c }
 {
@@ -121,7 +121,7 @@ pub fn marks_easy(sheet: &[u8], m: usize, i: usize, c: usize) -> bool
 
 // Document 02, request 5: "The number of difficult marks in a row is told from its count of ones", over each byte. The bits after the last
 // mark are 0.
-pub fn difficult_marks(sheet: &[u8], m: usize, i: usize) -> usize
+fn difficult_marks(sheet: &[u8], m: usize, i: usize) -> usize
     requires { RowInSheet sheet.now m i }
     ensures { result ≡ difficult_marks sheet.now i }
 {
@@ -133,7 +133,7 @@ pub fn difficult_marks(sheet: &[u8], m: usize, i: usize) -> usize
 }
 
 // Whether agent i marked every chore difficult.
-pub fn all_difficult(sheet: &[u8], m: usize, i: usize) -> bool
+fn all_difficult(sheet: &[u8], m: usize, i: usize) -> bool
     requires { RowInSheet sheet.now m i }
     ensures { result ≡ all_difficult sheet.now i }
 {
