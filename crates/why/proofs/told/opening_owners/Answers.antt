@@ -1,4 +1,3 @@
-use Rattle.std.proofs.Common.{refl}
 use Rattle.model.specs.Sheet.{as_read}
 use Rattle.model.specs.Algorithm.{opening}
 use Rattle.why.proofs.Telling.{opening_into}
