@@ -1,12 +1,13 @@
 // The cases of document 01 that have no star: each limit, at it and one past it, and one case for every other refusal. One line each.
 #![tactic(auto)]
 
-ghost use Rattle.std.specs.Prelude.{◌+◌, ◌*◌, ◌≤◌, ◌<◌, ◌≡◌, length};
+ghost use Rattle.std.specs.Prelude.{◌+◌, ◌*◌, ◌≤◌, length};
 ghost use Rattle.model.specs.Limits.{max_agents, max_chores, scratch_size};
 ghost use Rattle.finite.specs.Packed.{bytes_for};
 ghost use Rattle.model.specs.Sheet.{header_size};
 
-use model::{HEADER_SIZE, ListVerdict, PriceVerdict, ShareOut};
+use model::{HEADER_SIZE, ListVerdict, PriceVerdict, Refusal, ShareOut};
+use std::fmt::Display;
 use std::io;
 
 // The longest sheet tried has two rows, of one chore past the limit.
@@ -19,8 +20,8 @@ const ROWS: [u8; 2] = [0b0000_0000, 0b1111_0000];
 
 const SIZE: usize = HEADER_SIZE + 2;
 
-fn print_refused(rt: &impl Print, number: u8) -> io::Result<()> {
-    println!(rt; " refused {number}")
+fn print_refused(rt: &impl Print, refusal: Refusal) -> io::Result<()> {
+    println!(rt; " refused {refusal}")
 }
 
 // No case of a check comes here.
@@ -28,82 +29,67 @@ fn print_taken(rt: &impl Print) -> io::Result<()> {
     println!(rt; " not refused")
 }
 
-fn print_owners(rt: &impl Print, owners: &[u8]) -> io::Result<()> {
-    print!(rt; " owners")?;
-    for owner in owners {
-        print!(rt; " {owner}")?;
-    }
-    Ok(())
-}
-
-fn print_prices(rt: &impl Print, prices: &[u32]) -> io::Result<()> {
-    print!(rt; " prices")?;
-    for price in prices {
-        print!(rt; " {price}")?;
+fn print_list<T: Display>(rt: &impl Print, word: &str, numbers: &[T]) -> io::Result<()> {
+    print!(rt; " {word}")?;
+    for number in numbers {
+        print!(rt; " {number}")?;
     }
     Ok(())
 }
 
 fn print_share_out(
     rt: &impl Print,
-    answer: ShareOut,
+    answer: Result<ShareOut, Refusal>,
     owners: &[u8],
     prices: &[u32],
 ) -> io::Result<()> {
     match answer {
-        ShareOut::Refused(number) => print_refused(rt, number),
-        ShareOut::Shared { moves, cuts } => {
+        Ok(ShareOut { moves, cuts }) => {
             print!(rt; " moves {moves} cuts {cuts}")?;
-            print_owners(rt, owners)?;
-            print_prices(rt, prices)?;
+            print_list(rt, "owners", owners)?;
+            print_list(rt, "prices", prices)?;
             println!(rt)
         }
+        Err(refusal) => print_refused(rt, refusal),
     }
 }
 
-fn print_list_verdict(rt: &impl Print, answer: ListVerdict) -> io::Result<()> {
+fn print_list_verdict(rt: &impl Print, answer: Result<ListVerdict, Refusal>) -> io::Result<()> {
     match answer {
-        ListVerdict::Refused(number) => print_refused(rt, number),
-        ListVerdict::Holds => println!(rt; " holds"),
-        _ => print_taken(rt),
+        Ok(ListVerdict::Holds) => println!(rt; " holds"),
+        Ok(_) => print_taken(rt),
+        Err(refusal) => print_refused(rt, refusal),
     }
 }
 
-fn print_price_verdict(rt: &impl Print, answer: PriceVerdict) -> io::Result<()> {
+fn print_price_verdict(rt: &impl Print, answer: Result<PriceVerdict, Refusal>) -> io::Result<()> {
     match answer {
-        PriceVerdict::Refused(number) => print_refused(rt, number),
-        _ => print_taken(rt),
+        Ok(_) => print_taken(rt),
+        Err(refusal) => print_refused(rt, refusal),
     }
 }
 
-// The weights are 1 and b, high byte first.
+// The weights are 1 and b.
 fn write_header(sheet: &mut [u8], n: u8, m: u16, b: u16)
     requires { header_size ≤ length sheet.old }
 {
     sheet[0] = n;
-    sheet[1] = (m / 256) as u8;
-    sheet[2] = (m % 256) as u8;
-    sheet[3] = 0;
-    sheet[4] = 1;
-    sheet[5] = (b / 256) as u8;
-    sheet[6] = (b % 256) as u8;
+    sheet[1..3].copy_from_slice(&m.to_be_bytes());
+    sheet[3..5].copy_from_slice(&1u16.to_be_bytes());
+    sheet[5..7].copy_from_slice(&b.to_be_bytes());
 }
 
 // The bytes of the rows, over and over.
 fn write_rows(sheet: &mut [u8], rows: &[u8])
-    requires header_size_in_bounds { header_size ≤ length sheet.old }
-    requires rows_nonzero { 0 < length rows.now }
+    requires { header_size ≤ length sheet.old }
 {
-    let mut k = HEADER_SIZE;
-    while k < sheet.len() {
-        sheet[k] = rows[(k - HEADER_SIZE) % rows.len()];
-        k += 1;
+    for (byte, row) in sheet[HEADER_SIZE..].iter_mut().zip(rows.iter().cycle()) {
+        *byte = *row;
     }
 }
 
 fn write_sheet(sheet: &mut [u8], n: u8, m: u16, b: u16, rows: &[u8])
-    requires header_size_in_bounds { header_size ≤ length sheet.old }
-    requires rows_nonzero { 0 < length rows.now }
+    requires { header_size ≤ length sheet.old }
 {
     write_header(sheet, n, m, b);
     write_rows(sheet, rows);
@@ -117,19 +103,18 @@ fn try_share_out(rt: &impl Print, sheet: &[u8], m: usize, scratch: usize) -> io:
     let mut owners = [0u8; model::MAX_CHORES + 1];
     let mut prices = [0u32; model::MAX_CHORES + 1];
     let mut lent = [0u8; model::SCRATCH_SIZE];
-    let answer = allocation::allocate(sheet, &mut owners, &mut prices, &mut lent[0..scratch]);
-    print_share_out(rt, answer, &owners[0..m], &prices[0..m])
+    let answer = allocation::allocate(sheet, &mut owners, &mut prices, &mut lent[..scratch]);
+    print_share_out(rt, answer, &owners[..m], &prices[..m])
 }
 
 fn try_sheet(rt: &impl Print, n: u8, m: u16, b: u16, rows: &[u8], scratch: usize) -> io::Result<()>
     requires m_bound { m ≤ max_chores + 1 }
     requires m_bound_2 { n * bytes_for m ≤ 2 * bytes_for (max_chores + 1) }
-    requires rows_nonzero { 0 < length rows.now }
     requires scratch_le_scratch_size { scratch ≤ scratch_size }
 {
     let mut space = [0u8; LONGEST];
     let size = sheet::row_start(m as usize, n as usize);
-    let sheet = &mut space[0..size];
+    let sheet = &mut space[..size];
     write_sheet(sheet, n, m, b, rows);
     try_share_out(rt, sheet, m as usize, scratch)
 }
@@ -179,9 +164,7 @@ fn try_limits(rt: &impl Print) -> io::Result<()> {
 }
 
 // The faults below are made in sheet C.
-fn sheet_c() -> [u8; SIZE]
-    ensures { length result ≡ 9 }
-{
+fn sheet_c() -> [u8; SIZE] {
     let mut sheet = [0u8; SIZE];
     write_sheet(&mut sheet, 2, 5, 3, &ROWS);
     sheet
@@ -200,7 +183,7 @@ fn try_length(rt: &impl Print, size: usize) -> io::Result<()>
 {
     let sheet = sheet_c();
     print!(rt; "length {size}")?;
-    try_share_out(rt, &sheet[0..size], CHORES, model::SCRATCH_SIZE)
+    try_share_out(rt, &sheet[..size], CHORES, model::SCRATCH_SIZE)
 }
 
 fn try_list(rt: &impl Print, owners: &[u8], slack: u8, lent: usize) -> io::Result<()>
@@ -210,7 +193,7 @@ fn try_list(rt: &impl Print, owners: &[u8], slack: u8, lent: usize) -> io::Resul
     let mut dominating = [0u8; model::MAX_CHORES];
     print_list_verdict(
         rt,
-        listcheck::check_list(&sheet, owners, slack, &mut dominating[0..lent]),
+        listcheck::check_list(&sheet, owners, slack, &mut dominating[..lent]),
     )
 }
 
@@ -232,7 +215,7 @@ fn try_owners(rt: &impl Print, count: usize) -> io::Result<()>
 {
     let owners = [2u8, 2, 1, 1, 2];
     print!(rt; "owners {count}")?;
-    try_list(rt, &owners[0..count], 1, CHORES)
+    try_list(rt, &owners[..count], 1, CHORES)
 }
 
 fn try_owner(rt: &impl Print, owner: u8) -> io::Result<()> {
@@ -249,29 +232,21 @@ fn try_price(rt: &impl Print, price: u32) -> io::Result<()> {
 }
 
 // A sheet that is found is shared out.
-fn print_found(rt: &impl Print, refusal: u8, sheet: &[u8]) -> io::Result<()> {
-    if refusal != 0 {
-        print_refused(rt, refusal)
-    } else {
-        print!(rt; " of {} bytes", sheet.len())?;
-        try_share_out(rt, sheet, CHORES, model::SCRATCH_SIZE)
-    }
-}
-
-// What a lookup answers is taken apart here alone.
 fn look_up(rt: &impl Print, book: &[u8], which: usize) -> io::Result<()> {
-    let found = contents::find_sheet(book, which);
-    print_found(rt, found.refusal, found.sheet)
+    match contents::find_sheet(book, which) {
+        Ok(sheet) => {
+            print!(rt; " of {} bytes", sheet.len())?;
+            try_share_out(rt, sheet, CHORES, model::SCRATCH_SIZE)
+        }
+        Err(refusal) => print_refused(rt, refusal),
+    }
 }
 
 // A book of C, from byte 9 on and of 9 bytes, and of a sheet of no bytes, which is no refused lookup.
 fn try_lookup(rt: &impl Print, which: usize) -> io::Result<()> {
     let mut book = [0u8; 18];
-    book[0] = 2;
-    book[2] = 9;
-    book[4] = 9;
-    book[6] = 18;
-    write_sheet(&mut book[9..18], 2, 5, 3, &ROWS);
+    book[..9].copy_from_slice(&[2, 0, 9, 0, 9, 0, 18, 0, 0]);
+    book[9..].copy_from_slice(&sheet_c());
     print!(rt; "sheet {which}")?;
     look_up(rt, &book, which)
 }

@@ -59,22 +59,21 @@ module _ (s owners : List ℕ) (i : ℕ) where
     difficults_held =
         rw (k.all, k.difficults) (count_mono c (burdens s owners i) (owns (owner_of owners) i) (λ d _ p. (and_elim (owns (owner_of owners) i d) _ p).0))
 
-module _ {s owners : List ℕ} {n m : ℕ} (g : Given s owners n m) (i : ℕ) where
+module _ {s owners : List ℕ} (g : Given s owners) (i : ℕ) where
   -- the count stops at t difficult chores, or goes to the end
-  pub off_counted : {t c held difficult count : ℕ} → Counted s owners i c held difficult → c ≤ m → difficult ≤ t → (difficult < t → c ≡ m) → count ≡ min held t → Off s owners t i (count * easy_weight s + difficult * (difficult_weight s - easy_weight s))
+  pub off_counted : {t c held difficult count : ℕ} → Counted s owners i c held difficult → c ≤ chores_of s → difficult ≤ t → (difficult < t → c ≡ chores_of s) → count ≡ min held t → Off s owners t i (count * easy_weight s + difficult * (difficult_weight s - easy_weight s))
   unfolding as_marked burdens bundle_size
   off_counted {t} {c} {held} {difficult} {count} k inside few whole e =
       let x = owner_of owners in
       let T = count_to (chores_of s) (owns x i) in
       let H = count_to (chores_of s) (burdens s owners i) in
-      let within = rw g.chores at inside in
       let counted : (count ≡ min t T) × (difficult ≡ min t H) =
       by_less difficult t
       (λ l.
-      let done = whole l ∙ g.chores in
+      let done = whole l in
       (omega (arith, e, rw done at k.all), omega (arith, rw done at k.difficults)))
       (λ l.
-      let held-there = count_longer (owns x i) within in
-      let difficult-there = count_longer (burdens s owners i) within in
+      let held-there = count_longer (owns x i) inside in
+      let difficult-there = count_longer (burdens s owners i) inside in
       (omega (arith, e, k.all, held-there, difficults_held s owners i k), omega (arith, k.difficults, difficult-there))) in
       record { whole = rw (counted.0, counted.1) (off_by_counts (as_marked s) i g.valid.easier x t) }

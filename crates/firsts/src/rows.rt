@@ -1,5 +1,5 @@
 // The rows of the table, a place for each trait. A set of traits is the bits of a word.
-ghost use Rattle.std.specs.Prelude.{MatchOption, ◌+◌, ◌*◌, ◌≤◌, min, cond, ◌&&◌, ◌≡◌, leb, length, get_or};
+ghost use Rattle.std.specs.Prelude.{MatchOption, ◌+◌, ◌*◌, ◌^◌, ◌≤◌, ◌<◌, min, cond, ◌&&◌, ◌≡◌, leb, length, get_or};
 ghost use Rattle.std.specs.Iterator.{at_most};
 ghost use Rattle.finite.specs.Bits.{bit, SetOf};
 ghost use Rattle.model.specs.Limits.{max_agents, max_chores};
@@ -7,6 +7,7 @@ ghost use Rattle.firsts.specs.Traits.{trait_count};
 ghost use Rattle.firsts.specs.Bits.{NextBit};
 ghost use Rattle.firsts.specs.Table.{Spot, Put, Gained};
 
+use crate::table::Table;
 use crate::traits::TRAITS;
 
 // The bits of a word that are still to come, the lowest first.
@@ -70,13 +71,15 @@ fn earlier(c: usize, d: u16) -> u16
     (first * c as u64 + (1 - first) * d as u64) as u16
 }
 
-// Agent w gains chore c, which has these traits: the earlier chore is the first. Each entry is stored, changed or not.
-pub fn gain(first: &mut [u16], sets: &mut [u64], w: usize, c: usize, word: u64)
-    requires { Spot first.old w word × (c ≤ max_chores) × (length sets.old ≡ max_agents) }
-    ensures { Gained w c word first.old sets.old first.new sets.new }
-{
-    for t in Bits(word) {
-        first[w * TRAITS + t] = earlier(c, first[w * TRAITS + t]);
+impl Table {
+    // Agent w gains chore c, which has these traits: the earlier chore is the first. Each entry is stored, changed or not.
+    pub fn gain(&mut self, w: usize, c: usize, word: u64)
+        requires { (w < max_agents) × (word < 2 ^ trait_count) × (c ≤ max_chores) }
+        ensures { Gained w c word self.old.first self.old.sets self.new.first self.new.sets }
+    {
+        for t in Bits(word) {
+            self.first[w * TRAITS + t] = earlier(c, self.first[w * TRAITS + t]);
+        }
+        self.sets[w] |= word;
     }
-    sets[w] |= word;
 }

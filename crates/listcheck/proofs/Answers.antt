@@ -38,14 +38,14 @@ module _ (s owners : List ℕ) (slack lent : ℕ) (fine : list_refusal s owners 
   unfolding list_refusal
   parts = or_else_zero (given_refusal s owners) (lent_refusal (chores_of s) lent or_else slack_refusal slack) (or_else_assoc _ _ _ ∙ fine)
 
-  pub fine_given : {n m : ℕ} → n ≡ agents_of s → m ≡ chores_of s → Given s owners n m
+  pub fine_given : Given s owners
   fine_given = given parts.0
 
   lent_parts : (lent_refusal (chores_of s) lent ≡ 0) × (slack_refusal slack ≡ 0)
   lent_parts = or_else_zero (lent_refusal (chores_of s) lent) (slack_refusal slack) parts.1
 
-  pub fine_room : {m : ℕ} → m ≡ chores_of s → m ≤ lent
-  fine_room chores = rw chores (lent_room lent_parts.0)
+  pub fine_room : chores_of s ≤ lent
+  fine_room = lent_room lent_parts.0
 
   -- nor is one with any other slack that is within its limit
   fine_slack : (t : ℕ) → t ≤ max_slack → list_refusal s owners t lent ≡ 0
@@ -102,28 +102,28 @@ module _ {s owners : List ℕ} {slack : ℕ} {lent : List ℕ} {r : Result ListV
 pub checked_wasteful : {s owners : List ℕ} {slack : ℕ} {lent lent' : List ℕ} → wasteful ≡ list_check s owners slack (length lent) → Dominating s owners lent lent' → ListChecked s owners slack lent lent' (Ok ListVerdict.Wasteful)
 checked_wasteful e d = record { answer = e; shown = λ _. d; kept = λ h. absurd (h (sym e)); larger = λ h. absurd (holds_other (sym h)) }
 
-module _ {s owners : List ℕ} {n m : ℕ} (g : Given s owners n m) (slack : ℕ) where
+module _ (s owners : List ℕ) (slack : ℕ) where
   -- the first pair that envies
-  module _ {i : ℕ} (envier : Some i ≡ if_below n (first_of_pair n (envies slack (as_marked s) (owner_of owners)))) {o : Option ℕ} (envied : o ≡ if_below n (first_below n (envies slack (as_marked s) (owner_of owners) i))) where
+  module _ {i : ℕ} (envier : Some i ≡ if_below (agents_of s) (first_of_pair (agents_of s) (envies slack (as_marked s) (owner_of owners)))) {o : Option ℕ} (envied : o ≡ if_below (agents_of s) (first_below (agents_of s) (envies slack (as_marked s) (owner_of owners) i))) where
     pub envied_some : is_some o ≡ true
     unfolding first_of_pair
     envied_some =
         let t = envies slack (as_marked s) (owner_of owners) in
-        ap is_some envied ∙ any_found n (t i) ∙ (found_first (λ i. any_below n (λ j. t i j)) envier).passes
+        ap is_some envied ∙ any_found (agents_of s) (t i) ∙ (found_first (λ i. any_below (agents_of s) (λ j. t i j)) envier).passes
 
-    pub envious_pair : {j : ℕ} → o ≡ Some j → FirstPair n (envies slack (as_marked s) (owner_of owners)) i j
+    pub envious_pair : {j : ℕ} → o ≡ Some j → FirstPair (agents_of s) (envies slack (as_marked s) (owner_of owners)) i j
     unfolding second_of_pair
     envious_pair e =
         let t = envies slack (as_marked s) (owner_of owners) in
         let first = found_is envier in
-        rw ((found_is (sym e ∙ envied)).0, first.0) (pair_found n t first.1)
+        rw ((found_is (sym e ∙ envied)).0, first.0) (pair_found (agents_of s) t first.1)
 
-  pub even : None ≡ if_below n (first_of_pair n (envies slack (as_marked s) (owner_of owners))) → even_up_to slack (as_marked s) (owner_of owners) ≡ true
+  pub even : None ≡ if_below (agents_of s) (first_of_pair (agents_of s) (envies slack (as_marked s) (owner_of owners))) → even_up_to slack (as_marked s) (owner_of owners) ≡ true
   unfolding as_marked envies
   even none =
       even_intro (as_marked s) (owner_of owners) slack
-      (λ i j a b. not-false _ (pair_none_elim n (envies slack (as_marked s) (owner_of owners)) (found_none none) i j (rw g.agents a) (rw g.agents b)))
+      (λ i j a b. not-false _ (pair_none_elim (agents_of s) (envies slack (as_marked s) (owner_of owners)) (found_none none) i j a b))
 
-  pub unfair_verdict : {i j : ℕ} → FirstPair n (envies slack (as_marked s) (owner_of owners)) i j → list_verdict slack (as_marked s) (owner_of owners) ≡ unfair (i + 1) (j + 1)
+  pub unfair_verdict : {i j : ℕ} → FirstPair (agents_of s) (envies slack (as_marked s) (owner_of owners)) i j → list_verdict slack (as_marked s) (owner_of owners) ≡ unfair (i + 1) (j + 1)
   unfolding as_marked
-  unfair_verdict f = verdict_unfair slack (as_marked s) (owner_of owners) (rw g.agents at f)
+  unfair_verdict f = verdict_unfair slack (as_marked s) (owner_of owners) f

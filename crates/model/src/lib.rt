@@ -1,7 +1,7 @@
 // The answers of the public calls. What each of them says is defined in specs/.
 #![tactic(auto)]
 
-ghost use Rattle.std.specs.Prelude.{◌≡◌};
+ghost use Rattle.std.specs.Prelude.{◌≡◌, length};
 ghost use Rattle.model.specs.RefusalNumbers.{refusal_number, number_of};
 
 use std::fmt;
@@ -49,6 +49,16 @@ pub fn number_of(answer: Result<(), Refusal>) -> u8
     match answer {
         Ok(()) => 0,
         Err(refusal) => u8::from(refusal),
+    }
+}
+
+// Copies bytes one by one: for the slice's own method the archive would ask the C library for `memmove`, which it does not.
+pub fn copy_bytes(from: &[u8], to: &mut [u8])
+    requires { length from.now ≡ length to.old }
+    ensures { to.new ≡ from.now }
+{
+    for (i, &byte) in from.iter().enumerate() {
+        to[i] = byte;
     }
 }
 

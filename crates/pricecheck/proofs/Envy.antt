@@ -14,7 +14,7 @@ use Rattle.finite.proofs.Search.{any_none}
 use Rattle.finite.proofs.Where.{where_none}
 use Rattle.model.specs.Limits.{max_agents}
 use Rattle.model.specs.Instance.{Instance, owner_of, price_of}
-use Rattle.model.specs.Sheet.{as_marked}
+use Rattle.model.specs.Sheet.{agents_of, chores_of, as_marked}
 use Rattle.model.specs.Fairness.{owns, holds_any, total}
 use Rattle.model.specs.Prices.{price_sum, dearest, price_up_to_one}
 use Rattle.model.specs.Refusals.{price_refusal}
@@ -23,7 +23,7 @@ use Rattle.model.specs.Verdicts.{first_of_pair, second_of_pair, unless_refused, 
 use Rattle.model.proofs.Pairs.{pair_cong, second_cong}
 use Rattle.welfare.proofs.Answered.{refused_told}
 use Rattle.totals.specs.Totals.{Summed}
-use Rattle.pricecheck.specs.Parts.{PricesGiven, above, outpays, envy_verdict}
+use Rattle.pricecheck.specs.Parts.{above, outpays, envy_verdict}
 
 -- what the search for the first pair means for the answer
 module _ {n : ℕ} (t : ℕ → ℕ → Bool) where
@@ -78,13 +78,13 @@ module _ (s owners prices : List ℕ) where
   unfolding price_check
   check_refused e h = refused_told _ e h
 
-  module _ {n m c : ℕ} (fine : price_refusal s owners prices ≡ 0) (g : PricesGiven s owners prices n m) (first : c ≡ first_off_price (as_marked s) (owner_of owners) (price_of prices)) where
-    pub check_off : c < m → off_price (c + 1) ≡ price_check s owners prices
+  module _ {c : ℕ} (fine : price_refusal s owners prices ≡ 0) (first : c ≡ first_off_price (as_marked s) (owner_of owners) (price_of prices)) where
+    pub check_off : c < chores_of s → off_price (c + 1) ≡ price_check s owners prices
     unfolding price_check unless_refused as_marked
-    check_off l = rw fine (verdict_off (as_marked s) (owner_of owners) (price_of prices) first (rw g.given.chores at l))
+    check_off l = rw fine (verdict_off (as_marked s) (owner_of owners) (price_of prices) first l)
 
-    pub check_on : {answer : Reply} → m ≤ c → answer ≡ envy_verdict n (outpays (length owners) (owner_of owners) (price_of prices)) → answer ≡ price_check s owners prices
+    pub check_on : {answer : Reply} → length owners ≡ chores_of s → chores_of s ≤ c → answer ≡ envy_verdict (agents_of s) (outpays (length owners) (owner_of owners) (price_of prices)) → answer ≡ price_check s owners prices
     unfolding price_check unless_refused as_marked
-    check_on l e =
+    check_on size l e =
         rw fine
-        ((rw (g.given.size, g.given.agents, g.given.chores) at e) ∙ verdict_on (as_marked s) (owner_of owners) (price_of prices) first (rw g.given.chores at l))
+        ((rw size at e) ∙ verdict_on (as_marked s) (owner_of owners) (price_of prices) first l)

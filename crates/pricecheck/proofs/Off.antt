@@ -3,7 +3,7 @@
 use Prim.Native.Nat.{ℕ, ◌*◌, ◌<◌}
 use mathlib.Core.Bool.{Bool, cond, not}
 use mathlib.Core.List.{List}
-use mathlib.Core.Path.{◌≡◌, refl, sym, ◌∙◌}
+use mathlib.Core.Path.{◌≡◌, refl, sym}
 use lib.Dec.{leb, ltb, eqb}
 use lib.ListN.{get_or}
 use borrow.Author.Tests.{lt-ltb, le-ltb, lt-leb, le-leb}
@@ -13,16 +13,16 @@ use Rattle.finite.specs.Search.{first_below}
 use Rattle.finite.proofs.Tests.{cond-not}
 use Rattle.finite.proofs.Packed.{digit_is}
 use Rattle.model.specs.Instance.{owner_of, price_of}
-use Rattle.model.specs.Sheet.{easy_weight, difficult_weight, is_difficult, marks_easy, as_marked}
+use Rattle.model.specs.Sheet.{agents_of, chores_of, easy_weight, difficult_weight, is_difficult, marks_easy, as_marked}
 use Rattle.model.specs.Prices.{best}
 use Rattle.model.specs.Verdicts.{first_off_price}
 use Rattle.welfare.proofs.Costs.{marked_weighted}
-use Rattle.sheet.specs.Readers.{InSheet}
+use Rattle.given.specs.Given.{Weighed}
 use Rattle.given.proofs.Given.{owner_below}
 use Rattle.given.proofs.Costs.{weighed_easier, read_marked}
 use Rattle.pricecheck.specs.Parts.{PricesGiven}
-use Rattle.pricecheck.specs.Worths.{worth, Weighable, Rated, Greatest}
-use Rattle.pricecheck.proofs.Worths.{best_is, rated_fits}
+use Rattle.pricecheck.specs.Worths.{worth, Weighable, Greatest}
+use Rattle.pricecheck.proofs.Worths.{best_is, weighed_fits}
 
 -- what a search for such a chore tests: chore c is worth less to its owner than the greatest worth
 abbrev pub worth_less : List ℕ → List ℕ → List ℕ → ℕ → ℕ → List ℕ → ℕ → Bool
@@ -31,37 +31,28 @@ worth_less s owners prices a b greatest c = ltb (get_or prices c 0 * cond (eqb (
 not-leb : (x y : ℕ) → not (leb x y) ≡ ltb y x
 not-leb x y = by_less y x (λ l. rw (lt-leb _ _ l, lt-ltb _ _ l)) (λ l. rw (le-leb _ _ l, le-ltb _ _ l))
 
-module _ {s owners prices : List ℕ} {n m : ℕ} (g : PricesGiven s owners prices n m) where
-  pub owner_among : (c : ℕ) {i : ℕ} → c < m → i ≡ owner_of owners c → i < n
+module _ {s owners prices : List ℕ} (g : PricesGiven s owners prices) where
+  pub owner_among : (c : ℕ) {i : ℕ} → c < chores_of s → i ≡ owner_of owners c → i < agents_of s
   owner_among c below own = rw own (owner_below g.given c below)
 
-  pub owner_marks : (c : ℕ) {i : ℕ} → c < m → i ≡ owner_of owners c → InSheet s m i c
-  owner_marks c below own =
-      record {
-        valid = g.given.valid;
-        chores = g.given.chores;
-        agent = rw (← g.given.agents) (owner_among c below own);
-        chore = rw (← g.given.chores) below;
-      }
-
-  module _ {a b : ℕ} (rated : Rated s prices m a b) where
+  module _ {a b : ℕ} (w : Weighed s a b) where
     -- chore c, its owner i, and i's mark for it
-    pub off_weighable : (c : ℕ) {i mark : ℕ} → c < m → i ≡ owner_of owners c → mark ≡ cond (is_difficult s i c) 1 0 → Weighable (get_or prices c 0) a b mark
+    pub off_weighable : (c : ℕ) {i mark : ℕ} → c < chores_of s → i ≡ owner_of owners c → mark ≡ cond (is_difficult s i c) 1 0 → Weighable (get_or prices c 0) a b mark
     off_weighable c {i} below own read =
         record {
           priced = g.priced.bounded c below;
-          marked = read_marked (weighed_easier rated.weighed) (is_difficult s i c) read;
-          fits = rated_fits rated;
+          marked = read_marked (weighed_easier w) (is_difficult s i c) read;
+          fits = weighed_fits w;
         }
 
-    module _ {greatest : List ℕ} (all : Greatest s prices n m greatest) where
-      off_is : (c : ℕ) → c < m → worth_less s owners prices a b greatest c ≡ not (best (as_marked s) (price_of prices) (owner_of owners c) c)
+    module _ {greatest : List ℕ} (all : Greatest s prices (chores_of s) greatest) where
+      off_is : (c : ℕ) → c < chores_of s → worth_less s owners prices a b greatest c ≡ not (best (as_marked s) (price_of prices) (owner_of owners c) c)
       unfolding worth as_marked marks_easy price_of
       off_is c below =
           let i = owner_of owners c in
-          sym (rw (best_is (as_marked s) (marked_weighted g.given.valid) (price_of prices) i c, not-leb, all.each i (owner_among c below refl), digit_is (is_difficult s i c), rated.weighed.easy, rated.weighed.difficult, g.given.chores, cond-not (is_difficult s i c) (difficult_weight s) (easy_weight s)))
+          sym (rw (best_is (as_marked s) (marked_weighted g.given.valid) (price_of prices) i c, not-leb, all.each i (owner_among c below refl), digit_is (is_difficult s i c), w.easy, w.difficult, cond-not (is_difficult s i c) (difficult_weight s) (easy_weight s)))
 
       -- the first is that of the definition
-      pub off_first : first_below m (worth_less s owners prices a b greatest) ≡ first_off_price (as_marked s) (owner_of owners) (price_of prices)
+      pub off_first : first_below (chores_of s) (worth_less s owners prices a b greatest) ≡ first_off_price (as_marked s) (owner_of owners) (price_of prices)
       unfolding first_off_price as_marked
-      off_first = first_cong m off_is ∙ rw g.given.chores
+      off_first = first_cong (chores_of s) off_is

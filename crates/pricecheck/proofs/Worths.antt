@@ -20,13 +20,13 @@ use Rattle.finite.proofs.Bits.{bit_zero}
 use Rattle.finite.proofs.Packed.{digit_is}
 use Rattle.model.specs.Limits.{max_agents, max_weight}
 use Rattle.model.specs.Instance.{Instance, cost, price_of}
-use Rattle.model.specs.Sheet.{easy_weight, difficult_weight, row_of, marks_easy, as_marked}
+use Rattle.model.specs.Sheet.{agents_of, chores_of, easy_weight, difficult_weight, row_of, marks_easy, as_marked}
 use Rattle.model.specs.Prices.{ratio_at_most, best}
 use Rattle.welfare.proofs.Costs.{Weighted}
-use Rattle.sheet.specs.Readers.{RowInSheet}
 use Rattle.sheet.proofs.Marks.{mark_in_row}
+use Rattle.given.specs.Given.{Weighed}
 use Rattle.given.proofs.Costs.{weighed_easier, read_marked}
-use Rattle.pricecheck.specs.Worths.{worth, Weighable, worth_in, UpToEight, Rated, Column, greatest_to, Greatest}
+use Rattle.pricecheck.specs.Worths.{worth, Weighable, worth_in, UpToEight, Column, greatest_to, Greatest}
 
 module _ (I : Instance) (w : Weighted I) (p : ℕ → ℕ) (i : ℕ) where
   -- the weight that a chore does not cost
@@ -86,30 +86,25 @@ unfolding worth_in
 easy_most prices first byte j le =
     rw (bit_zero (7 - j)) (mul-le-mul_left (price_of prices (first + j)) (cond-le (bit byte (7 - j)) (λ _. le) (λ _. le_refl _)))
 
-pub rated_fits : {s prices : List ℕ} {m a b : ℕ} → Rated s prices m a b → b ≤ max_weight
-rated_fits r = rw r.weighed.difficult r.weighed.valid.weight_fits
+pub weighed_fits : {s : List ℕ} {a b : ℕ} → Weighed s a b → b ≤ max_weight
+weighed_fits w = rw w.difficult w.valid.weight_fits
 
 -- the chores of a column
-module _ {s prices : List ℕ} {n m a b k count : ℕ} (col : Column s prices n m a b k count) where
+module _ {s prices : List ℕ} {k count : ℕ} (col : Column s prices k count) {a b : ℕ} (w : Weighed s a b) where
   pub column_eight : UpToEight prices a b (8 * k) count
   column_eight =
-      let priced = col.rated.priced in
       record {
-        easier = weighed_easier col.rated.weighed;
-        fits = rated_fits col.rated;
+        easier = weighed_easier w;
+        fits = weighed_fits w;
         few = col.few;
-        inside = rw priced.size col.inside;
-        bounded = λ c l. priced.bounded c (rw priced.size at l);
+        inside = rw col.priced.size col.inside;
+        bounded = λ c l. col.priced.bounded c (rw col.priced.size at l);
       }
-
-  pub column_row : (i : ℕ) → i < n → RowInSheet s m i
-  column_row i l =
-      record { valid = col.rated.weighed.valid; chores = col.rated.weighed.chores; agent = rw (← col.agents) l }
 
   in_byte : (i j : ℕ) → j < 8 → worth (as_marked s) (price_of prices) i (8 * k + j) ≡ worth_in a b prices (8 * k) (get_or (row_of s i) k 0) j
   unfolding worth worth_in as_marked marks_easy
   in_byte i j l =
-      rw (mark_in_row s i k j l, col.rated.weighed.easy, col.rated.weighed.difficult, cond-not (bit (get_or (row_of s i) k 0) (7 - j)) (difficult_weight s) (easy_weight s))
+      rw (mark_in_row s i k j l, w.easy, w.difficult, cond-not (bit (get_or (row_of s i) k 0) (7 - j)) (difficult_weight s) (easy_weight s))
 
   -- the greatest worth with them
   with_column : (i : ℕ) → greatest_to s prices (8 * k + count) i ≡ max (greatest_to s prices (8 * k) i) (max_to count (worth_in a b prices (8 * k) (get_or (row_of s i) k 0)))
@@ -124,21 +119,18 @@ module _ {s prices : List ℕ} {n m a b k count : ℕ} (col : Column s prices n 
     -- no more even if all are marked easy
     pub column_passed : {most : ℕ} → most ≡ max 0 (max_to count (worth_in a b prices (8 * k) 0)) → most ≤ known → known ≡ greatest_to s prices (8 * k + count) i
     column_passed told l =
-        let h = top_at_most count (λ j l. le_trans (easy_most prices (8 * k) (get_or (row_of s i) k 0) j (weighed_easier col.rated.weighed)) (top_above (worth_in a b prices (8 * k) 0) j l)) in
+        let h = top_at_most count (λ j l. le_trans (easy_most prices (8 * k) (get_or (row_of s i) k 0) j (weighed_easier w)) (top_above (worth_in a b prices (8 * k) 0) j l)) in
         omega (arith, so_far, told, h, with_column i)
 
   -- if they are worth anything, rows have such a byte
-  pub column_byte : (byte : ℕ) {known most : ℕ} → most ≡ max 0 (max_to count (worth_in a b prices (8 * k) byte)) → known < most → k < bytes_for m
+  pub column_byte : (byte : ℕ) {known most : ℕ} → most ≡ max 0 (max_to count (worth_in a b prices (8 * k) byte)) → known < most → k < bytes_for (chores_of s)
   column_byte byte told l =
       let f = worth_in a b prices (8 * k) byte in
       by_less 0 count (λ some. omega (arith, col.inside))
       (λ none. let e : count ≡ 0 = omega arith in absurd (omega (arith, told, ap (λ c. max_to c f) e, top_zero f)))
 
-  pub column_room : {i : ℕ} → i < n → i < max_agents
-  column_room l = omega (arith, col.agents, col.rated.weighed.valid.agents_fit)
-
 -- no chore has been passed yet
-pub greatest_none : {s prices greatest : List ℕ} {n : ℕ} → n ≤ max_agents → greatest ≡ replicate max_agents 0 → Greatest s prices n 0 greatest
+pub greatest_none : {s prices greatest : List ℕ} → agents_of s ≤ max_agents → greatest ≡ replicate max_agents 0 → Greatest s prices 0 greatest
 greatest_none {s} {prices} few e =
     let t = table_zeros {f = greatest_to s prices 0} (λ i. top_zero (worth (as_marked s) (price_of prices) i)) e in
     record { size = t.size; each = λ i l. t.entry i (omega arith) }

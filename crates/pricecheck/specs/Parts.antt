@@ -2,15 +2,16 @@
 use Rattle.std.specs.Prelude.{ℕ, ◌+◌, Bool, cond, List, ltb, get_or}
 use Rattle.finite.specs.Lists.{Picks}
 use Rattle.model.specs.Limits.{max_price}
+use Rattle.model.specs.Sheet.{chores_of}
 use Rattle.model.specs.Prices.{price_sum, price_up_to_one}
 use Rattle.model.specs.Replies.{Reply, price_envy, accepted}
 use Rattle.model.specs.Verdicts.{first_of_pair, second_of_pair}
 use Rattle.given.specs.Given.{Given}
 
 -- the lists that a price check is not turned down for
-pub record PricesGiven (s owners prices : List ℕ) (n m : ℕ) : Type 0 where
-  pub given : Given s owners n m
-  pub priced : Picks max_price m prices
+pub record PricesGiven (s owners prices : List ℕ) : Type 0 where
+  pub given : Given s owners
+  pub priced : Picks max_price (chores_of s) prices
 
 -- agent i's price up to one is above agent j's price sum
 unfoldable pub outpays : ℕ → (ℕ → ℕ) → (ℕ → ℕ) → ℕ → ℕ → Bool

@@ -5,8 +5,8 @@ use Rattle.finite.specs.Bits.{bit}
 use Rattle.finite.specs.Lists.{Picks}
 use Rattle.model.specs.Limits.{max_agents, max_weight, max_price}
 use Rattle.model.specs.Instance.{Instance, price_of}
-use Rattle.model.specs.Sheet.{agents_of, as_marked}
-use Rattle.given.specs.Given.{Weighed, Marked}
+use Rattle.model.specs.Sheet.{agents_of, chores_of, as_marked}
+use Rattle.given.specs.Given.{Marked}
 
 -- the price of chore c times the weight that it does not cost agent i
 unfoldable pub worth : Instance → (ℕ → ℕ) → ℕ → ℕ → ℕ
@@ -30,23 +30,17 @@ pub record UpToEight (prices : List ℕ) (a b first count : ℕ) : Type 0 where
   pub inside : first + count ≤ length prices
   pub bounded : (c : ℕ) → c < length prices → get_or prices c 0 ≤ max_price
 
--- what is asked where the worths of all chores are: each has a price, from 1 to 1,000,000
-pub record Rated (s prices : List ℕ) (m a b : ℕ) : Type 0 where
-  pub weighed : Weighed s m a b
-  pub priced : Picks max_price m prices
-
--- chores 8 k .. 8 k + count - 1, whose marks are in byte k of each of n rows
-pub record Column (s prices : List ℕ) (n m a b k count : ℕ) : Type 0 where
-  pub rated : Rated s prices m a b
-  pub agents : n ≡ agents_of s
+-- each chore has a price, from 1 to 1,000,000; of some, 8 k .. 8 k + count - 1, the marks are in byte k of each row
+pub record Column (s prices : List ℕ) (k count : ℕ) : Type 0 where
+  pub priced : Picks max_price (chores_of s) prices
   pub few : count ≤ 8
-  pub inside : 8 * k + count ≤ m
+  pub inside : 8 * k + count ≤ chores_of s
 
 -- the greatest worth of the first c chores to agent i
 abbrev pub greatest_to : List ℕ → List ℕ → ℕ → ℕ → ℕ
 greatest_to s prices c i = max_to c (worth (as_marked s) (price_of prices) i)
 
--- it is there for each of n agents
-pub record Greatest (s prices : List ℕ) (n c : ℕ) (greatest : List ℕ) : Type 0 where
+-- it is there for each agent
+pub record Greatest (s prices : List ℕ) (c : ℕ) (greatest : List ℕ) : Type 0 where
   pub size : length greatest ≡ max_agents
-  pub each : (i : ℕ) → i < n → get_or greatest i 0 ≡ greatest_to s prices c i
+  pub each : (i : ℕ) → i < agents_of s → get_or greatest i 0 ≡ greatest_to s prices c i

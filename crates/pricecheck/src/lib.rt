@@ -1,12 +1,13 @@
 // The price check: each chore is to be best for its owner, and nobody's price up to one above anybody's price sum.
 #![tactic(auto)]
 
-ghost use Rattle.std.specs.Prelude.{◌≡◌, ◌+◌, ◌*◌, ◌≤◌, ◌<◌, max, cond, eqb, length, IfSome, MatchOption};
+ghost use Rattle.std.specs.Prelude.{◌≡◌, ◌+◌, ◌*◌, ◌≤◌, ◌<◌, max, cond, eqb, length, IfOk, IfSome, MatchOption};
+ghost use Rattle.finite.specs.Lists.{Picks};
 ghost use Rattle.finite.specs.Search.{if_below};
 ghost use Rattle.finite.specs.Sums.{max_to};
-ghost use Rattle.model.specs.Limits.{max_agents};
+ghost use Rattle.model.specs.Limits.{max_agents, max_price};
 ghost use Rattle.model.specs.Instance.{owner_of, price_of};
-ghost use Rattle.model.specs.Sheet.{agents_of, as_marked};
+ghost use Rattle.model.specs.Sheet.{chores_of, as_marked};
 ghost use Rattle.model.specs.RefusalNumbers.{number_of};
 ghost use Rattle.model.specs.Refusals.{prices_refusal, price_refusal};
 ghost use Rattle.model.specs.Verdicts.{first_of_pair, second_of_pair, first_off_price};
@@ -14,9 +15,10 @@ ghost use Rattle.model.specs.Replies.{price_reply};
 ghost use Rattle.model.specs.Promises.{PricesChecked};
 ghost use Rattle.totals.specs.Totals.{Held};
 ghost use Rattle.pricecheck.specs.Parts.{PricesGiven, above, outpays, envy_verdict};
-ghost use Rattle.pricecheck.specs.Worths.{Rated, Weighable, UpToEight, worth_in, Column, Greatest};
+ghost use Rattle.pricecheck.specs.Worths.{Weighable, UpToEight, worth_in, Column, Greatest};
 
 use model::{PriceVerdict, Refusal};
+use sheet::valid::Sheet;
 
 // What a list of prices is turned down for.
 fn admit_prices(prices: &[u32], m: usize) -> Result<(), Refusal>
@@ -34,12 +36,14 @@ fn admit_prices(prices: &[u32], m: usize) -> Result<(), Refusal>
     Ok(())
 }
 
-// What the price check is turned down for.
-fn admit(sheet: &[u8], owners: &[u8], prices: &[u32]) -> Result<(), Refusal>
-    ensures { number_of result ≡ price_refusal sheet.now owners.now prices.now }
+// The sheet, or what the price check is turned down for.
+fn admit<'a>(bytes: &'a [u8], owners: &[u8], prices: &[u32]) -> Result<Sheet<'a>, Refusal>
+    ensures number { number_of result ≡ price_refusal bytes.now owners.now prices.now }
+    ensures same { IfOk result (λ sheet. sheet ≡ bytes.now) }
 {
-    given::admit_given(sheet, owners)?;
-    admit_prices(prices, sheet::chores(sheet))
+    let sheet = given::read_given(bytes, owners)?;
+    admit_prices(prices, sheet.chores())?;
+    Ok(sheet)
 }
 
 // What a chore is worth to an agent: its price times the weight that it does not cost. A cost times the other weight is a times b, whichever
@@ -76,64 +80,56 @@ fn greatest_in_byte(
 // The greatest worths so far, with `count` chores more: those whose marks are in byte k of a row. To nobody are they worth more than if all were
 // marked easy, so most agents' marks need not be read; none are where `count` is 0.
 fn raise(
-    sheet: &[u8],
+    sheet: &Sheet,
     prices: &[u32],
-    n: usize,
-    m: usize,
-    a: u32,
-    b: u32,
     k: usize,
     count: usize,
     greatest: &mut [u32; model::MAX_AGENTS],
 )
-    requires column { Column sheet.now prices.now n m a b k count }
-    requires greatest { Greatest sheet.now prices.now n (8 * k) greatest.old }
-    ensures { Greatest sheet.now prices.now n (8 * k + count) greatest.new }
+    requires column { Column sheet.now prices.now k count }
+    requires greatest { Greatest sheet.now prices.now (8 * k) greatest.old }
+    ensures { Greatest sheet.now prices.now (8 * k + count) greatest.new }
 {
+    let n = sheet.agents();
+    let a = sheet.easy_weight();
+    let b = sheet.difficult_weight();
     let first = 8 * k;
     let most = greatest_in_byte(0, prices, first, count, a, b, 0);
     for i in 0..n {
         let known = greatest[i];
         if known < most {
-            let byte = sheet::row_byte(sheet, m, i, k);
+            let byte = sheet.row_byte(i, k);
             greatest[i] = greatest_in_byte(byte, prices, first, count, a, b, known);
         }
     }
 }
 
 // For each agent the greatest worth of any chore. Eight is written out, so that the compiler unrolls the loop over a whole byte's marks.
-fn greatest_worths(
-    sheet: &[u8],
-    prices: &[u32],
-    n: usize,
-    m: usize,
-    a: u32,
-    b: u32,
-) -> [u32; model::MAX_AGENTS]
-    requires rated { Rated sheet.now prices.now m a b }
-    requires n_value { n ≡ agents_of sheet.now }
-    ensures { Greatest sheet.now prices.now n m result }
+fn greatest_worths(sheet: &Sheet, prices: &[u32]) -> [u32; model::MAX_AGENTS]
+    requires { Picks max_price (chores_of sheet.now) prices.now }
+    ensures { Greatest sheet.now prices.now (chores_of sheet.now) result }
 {
+    let m = sheet.chores();
     let mut greatest = [0; model::MAX_AGENTS];
     for k in 0..m / 8 {
-        raise(sheet, prices, n, m, a, b, k, 8, &mut greatest);
+        raise(sheet, prices, k, 8, &mut greatest);
     }
-    raise(sheet, prices, n, m, a, b, m / 8, m % 8, &mut greatest);
+    raise(sheet, prices, m / 8, m % 8, &mut greatest);
     greatest
 }
 
 // The first chore that is not best for its owner. A chore is best if no other is worth more to its owner.
-fn first_off_price(sheet: &[u8], owners: &[u8], prices: &[u32], n: usize, m: usize) -> Option<usize>
-    requires { PricesGiven sheet.now owners.now prices.now n m }
-    ensures is { result ≡ if_below m (first_off_price (as_marked sheet.now) (owner_of owners.now) (price_of prices.now)) }
-    ensures within { IfSome result (λ c. c < m) }
+fn first_off_price(sheet: &Sheet, owners: &[u8], prices: &[u32]) -> Option<usize>
+    requires { PricesGiven sheet.now owners.now prices.now }
+    ensures is { result ≡ if_below (chores_of sheet.now) (first_off_price (as_marked sheet.now) (owner_of owners.now) (price_of prices.now)) }
+    ensures within { IfSome result (λ c. c < chores_of sheet.now) }
 {
-    let a = sheet::easy_weight(sheet);
-    let b = sheet::difficult_weight(sheet);
-    let greatest = greatest_worths(sheet, prices, n, m, a, b);
-    (0..m).find(|&c| {
+    let a = sheet.easy_weight();
+    let b = sheet.difficult_weight();
+    let greatest = greatest_worths(sheet, prices);
+    (0..sheet.chores()).find(|&c| {
         let i = given::owner(owners, c);
-        worth(prices[c], a, b, sheet::mark_at(sheet, m, i, c)) < greatest[i]
+        worth(prices[c], a, b, sheet.mark(i, c)) < greatest[i]
     })
 }
 
@@ -169,11 +165,9 @@ fn envy_verdict(owners: &[u8], prices: &[u32], n: usize) -> PriceVerdict
 pub fn check_prices(sheet: &[u8], owners: &[u8], prices: &[u32]) -> Result<PriceVerdict, Refusal>
     ensures { PricesChecked sheet.now owners.now prices.now result }
 {
-    admit(sheet, owners, prices)?;
-    let n = sheet::agents(sheet);
-    let m = sheet::chores(sheet);
-    if let Some(c) = first_off_price(sheet, owners, prices, n, m) {
+    let sheet = admit(sheet, owners, prices)?;
+    if let Some(c) = first_off_price(&sheet, owners, prices) {
         return Ok(PriceVerdict::OffPrice((c + 1) as u16));
     }
-    Ok(envy_verdict(owners, prices, n))
+    Ok(envy_verdict(owners, prices, sheet.agents()))
 }

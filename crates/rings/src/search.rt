@@ -12,7 +12,7 @@ pub struct Found {
 }
 
 // From one distance to the next: whoever is not reached and has an offer for the ring takes a place in line, one further than the ring. The search
-// leaves all rings as soon as somebody above the least sum does.
+// leaves all rings as soon as somebody above the least sum does, through a label: document 01 names this form.
 pub fn search(
     n: usize,
     offers: &[u64],

@@ -8,7 +8,7 @@ ghost use Rattle.sheet.specs.Valid.{Valid};
 ghost use Rattle.steps.specs.Turns.{Tabled};
 ghost use Rattle.runs.specs.Runs.{Running, Kit, RunEnds, Begun};
 
-use firsts::traits::TRAITS;
+use firsts::table::Table;
 use records::note;
 use seeking::view_of;
 use sheet::valid::Sheet;
@@ -36,19 +36,18 @@ fn take_turns(
     groups: &mut [u8],
     entitled: &mut [u8],
     likes: &[u32],
-    first: &mut [u16],
-    sets: &mut [u64],
+    table: &mut Table,
     scratch: &mut [u8],
     record: &mut [u8],
 ) -> Stand
     requires kit { Kit sheet.now likes.now × Running sheet.now owners.old prices.old groups.old entitled.old «record».old «record».old 0 0 0 }
-    requires tabled { Tabled sheet.now owners.old prices.old groups.old entitled.old likes.now first.old sets.old × (length scratch.old ≡ scratch_size) }
+    requires tabled { Tabled sheet.now owners.old prices.old groups.old entitled.old likes.now table.old.first table.old.sets × (length scratch.old ≡ scratch_size) }
     ensures { RunEnds sheet.now owners.new prices.new groups.new entitled.new «record».old «record».new result.moves result.cuts }
 {
     let mut at = begin(sheet, groups);
     loop {
         match step(
-            sheet, owners, prices, groups, entitled, likes, first, sets, scratch, at,
+            sheet, owners, prices, groups, entitled, likes, table, scratch, at,
         ) {
             Turn::Moved {
                 chore,
@@ -84,12 +83,9 @@ pub fn run(
     requires scratch_len { length scratch.old ≡ scratch_size }
     ensures { RunEnds sheet.now owners.new prices.new groups.new entitled.new «record».old «record».new result.moves result.cuts }
 {
-    let mut first = [0; model::MAX_AGENTS * TRAITS];
-    let mut sets = [0; model::MAX_AGENTS];
-    fill_table(
-        sheet, owners, prices, groups, entitled, likes, &mut first, &mut sets,
-    );
+    let mut table = Table::new();
+    fill_table(sheet, owners, prices, groups, entitled, likes, &mut table);
     take_turns(
-        sheet, owners, prices, groups, entitled, likes, &mut first, &mut sets, scratch, record,
+        sheet, owners, prices, groups, entitled, likes, &mut table, scratch, record,
     )
 }

@@ -8,7 +8,7 @@ ghost use Rattle.seeking.specs.Looks.{Views};
 ghost use Rattle.steps.specs.Turns.{Filling, Tabled, Turning, Turned};
 ghost use Rattle.steps.specs.Parts.{Handing, HandedOver, Cutting, CutOff};
 
-use firsts::table::{fill, first_of, hand_on};
+use firsts::table::Table;
 use firsts::traits::View;
 use market::cuts::{cut_groups, cut_prices};
 use rings::line::reached;
@@ -45,15 +45,14 @@ pub fn fill_table(
     groups: &[u8],
     entitled: &[u8],
     likes: &[u32],
-    first: &mut [u16],
-    sets: &mut [u64],
+    table: &mut Table,
 )
-    requires { Filling sheet.now owners.now prices.now groups.now entitled.now likes.now first.old sets.old }
-    ensures { Tabled sheet.now owners.now prices.now groups.now entitled.now likes.now first.new sets.new }
+    requires { Filling sheet.now owners.now prices.now groups.now entitled.now likes.now table.old.first table.old.sets }
+    ensures { Tabled sheet.now owners.now prices.now groups.now entitled.now likes.now table.new.first table.new.sets }
 {
     let n = sheet.agents();
     let view = view_of(sheet, groups);
-    fill(n, owners, prices, entitled, likes, view, first, sets);
+    table.fill(n, owners, prices, entitled, likes, view);
 }
 
 // The giver's first chore with the trait goes to the receiver.
@@ -63,22 +62,19 @@ fn hand_over(
     entitled: &[u8],
     likes: &[u32],
     view: View,
-    first: &mut [u16],
-    sets: &mut [u64],
+    table: &mut Table,
     due: Move,
 ) -> Turn
-    requires { Handing owners.old prices.now entitled.now likes.now first.old sets.old due.giver due.receiver due.sought }
-    ensures { HandedOver (has_trait prices.now entitled.now likes.now view.free view.grouped view.mid view.top) due.giver due.receiver due.sought owners.old first.old sets.old result owners.new first.new sets.new }
+    requires { Handing owners.old prices.now entitled.now likes.now table.old.first table.old.sets due.giver due.receiver due.sought }
+    ensures { HandedOver (has_trait prices.now entitled.now likes.now view.free view.grouped view.mid view.top) due.giver due.receiver due.sought owners.old table.old.first table.old.sets result owners.new table.new.first table.new.sets }
 {
     let Move {
         giver,
         receiver,
         sought,
     } = due;
-    let chore = first_of(first, giver, sought);
-    hand_on(
-        owners, prices, entitled, likes, view, first, sets, chore, receiver,
-    );
+    let chore = table.first_of(giver, sought);
+    table.hand_on(owners, prices, entitled, likes, view, chore, receiver);
     Turn::Moved {
         chore,
         giver,
@@ -114,23 +110,31 @@ pub fn step(
     groups: &mut [u8],
     entitled: &mut [u8],
     likes: &[u32],
-    first: &mut [u16],
-    sets: &mut [u64],
+    table: &mut Table,
     scratch: &mut [u8],
     at: Stand,
 ) -> Turn
-    requires turning { Turning sheet.now owners.old prices.old groups.old entitled.old likes.now first.old sets.old at.cuts at.stage }
+    requires turning { Turning sheet.now owners.old prices.old groups.old entitled.old likes.now table.old.first table.old.sets at.cuts at.stage }
     requires views { Views sheet.now groups.old at.view.free at.view.grouped at.view.low at.view.mid at.view.top × (length scratch.old ≡ scratch_size) }
     ensures { Turned sheet.now owners.old prices.old groups.old entitled.old likes.now at.cuts at.stage
-        result owners.new prices.new groups.new entitled.new first.new sets.new }
+        result owners.new prices.new groups.new entitled.new table.new.first table.new.sets }
 {
     let view = at.view;
-    match seek(sheet, owners, prices, groups, sets, view, scratch, at.stage) {
-        Due::Hand(due) => hand_over(owners, prices, entitled, likes, view, first, sets, due),
+    match seek(
+        sheet,
+        owners,
+        prices,
+        groups,
+        &table.sets,
+        view,
+        scratch,
+        at.stage,
+    ) {
+        Due::Hand(due) => hand_over(owners, prices, entitled, likes, view, table, due),
         Due::Pass => Turn::Passed,
         Due::Cut => {
             cut(sheet, owners, prices, groups, entitled, scratch, at.cuts);
-            fill_table(sheet, owners, prices, groups, entitled, likes, first, sets);
+            fill_table(sheet, owners, prices, groups, entitled, likes, table);
             Turn::Cut
         }
         Due::End => Turn::Ended,

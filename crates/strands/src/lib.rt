@@ -122,7 +122,7 @@ fn write_row(row1: &[u8], m1: usize, row2: &[u8], m2: usize, joined: &mut [u8], 
 {
     let whole = m1 / 8;
     let shift = m1 % 8;
-    joined[at..at + whole].copy_from_slice(&row1[..whole]);
+    model::copy_bytes(&row1[..whole], &mut joined[at..at + whole]);
     let last = move_bytes(seam_bits(row1, m1), row2, shift, joined, at + whole);
     let end = whole + row2.len();
     if end < sheet::row_size(m1 + m2) {

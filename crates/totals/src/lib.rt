@@ -26,7 +26,7 @@ fn take_off(n: usize, sums: &[u32; model::MAX_AGENTS], dearest: &mut [u32; model
 }
 
 // Each price is added to its owner's sum. `ups` gets each agent's dearest price, and then, for the first n, the price up to one. Both are
-// lent, since arrays that are returned are copied.
+// lent, since arrays that are returned are copied. The loop goes by index: over the two lists zipped it was measured slower.
 pub fn sum_up(
     n: usize,
     owners: &[u8],

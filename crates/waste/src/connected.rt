@@ -13,7 +13,8 @@ ghost use Rattle.waste.specs.Tests.{takes, wasted};
 
 use sheet::valid::Sheet;
 
-// The entry of an agent without a distance. Distances are below the number of agents.
+// The entry of an agent without a distance. Distances are below the number of agents. An option is no plainer: searches compare distances with a
+// limit, and this one is above them all.
 pub const NO_DISTANCE: u8 = 255;
 
 // Distance 0: the agents that own a chore difficult for them.

@@ -76,7 +76,7 @@ pub fn write_dominating(
     ensures { Dominating sheet.now owners.now list.old list.new }
 {
     let i = given::owner(owners, c);
-    list[..sheet.chores()].copy_from_slice(owners);
+    model::copy_bytes(owners, &mut list[..sheet.chores()]);
     list[c] = (j + 1) as u8;
     let mut h = j;
     while distances[h] > 0 {

@@ -13,11 +13,11 @@ loop-k-init c = sums_none _ _ c.requires.sums_value
 pub returns-then-rest-gt0 : goal.returns-then-rest-gt0
 unfolding cost_to as_marked
 returns-then-rest-gt0 c =
-    let all : c.args.m - c.args.m % 8 + c.args.m % 8 ≡ chores_of c.args.sheet.now = omega (arith, c.requires.given.chores) in
+    let all : c.chores-m.result - c.chores-m.result % 8 + c.chores-m.result % 8 ≡ chores_of c.args.sheet.now = omega (arith, c.chores-m.ensures.is) in
     rw all at c.add_byte-then-rest-gt0.ensures
 
 pub returns-else-rest-gt0 : goal.returns-else-rest-gt0
 unfolding cost_to as_marked
 returns-else-rest-gt0 c =
-    let all : 8 * c.loop-k.k ≡ chores_of c.args.sheet.now = omega (arith, c.requires.given.chores) in
+    let all : 8 * c.loop-k.k ≡ chores_of c.args.sheet.now = omega (arith, c.chores-m.ensures.is) in
     rw all at c.loop-k.invariant

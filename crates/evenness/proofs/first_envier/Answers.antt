@@ -10,5 +10,6 @@ use Rattle.evenness.proofs.first_envier.Goals as goal
 pub returns : goal.returns
 unfolding first_of_pair
 returns c =
-    found_in c.args.n (λ i. any_below c.args.n (λ j. envies c.args.slack (as_marked c.args.sheet.now) (owner_of c.args.owners.now) i j)) _ _ c.find.result c.find.ensures.ran
-    (λ x b q k. search (rules, any_found))
+    rw (← c.agents.ensures.is)
+    (found_in c.agents.result (λ i. any_below c.agents.result (λ j. envies c.args.slack (as_marked c.args.sheet.now) (owner_of c.args.owners.now) i j)) _ _ c.find.result c.find.ensures.ran
+    (λ x b q k. search (rules, any_found)))

@@ -4,4 +4,4 @@ use Rattle.pricecheck.specs.Worths.{Greatest}
 use Rattle.pricecheck.proofs.greatest_worths.Given as goal
 
 abbrev pub invariant-loop-k : goal.invariant-loop-k
-invariant-loop-k l = Greatest l.sheet l.prices l.n (8 * l.k) l.greatest
+invariant-loop-k l = Greatest l.sheet l.prices (8 * l.k) l.greatest

@@ -1,5 +1,4 @@
 -- `runs::run` meets its contract.
-use Rattle.std.proofs.Common.{refl, rules}
 use Rattle.steps.proofs.Ready.{filling}
 use Rattle.runs.proofs.Running.{ready}
 use Rattle.runs.proofs.run.Goals as goal
@@ -7,4 +6,4 @@ use Rattle.runs.proofs.run.Goals as goal
 pub fill_table-requires : goal.fill_table-requires
 fill_table-requires c =
     let pre = c.requires.kit in
-    filling (ready pre.0.valid pre.1 pre.0) (record { first_sized = search rules; sets_sized = refl })
+    filling (ready pre.0.valid pre.1 pre.0) c.new-table.ensures

@@ -13,7 +13,7 @@ abbrev pub invariant-loop-chore : goal.invariant-loop-chore
 invariant-loop-chore l = record {
   kit : Kit l.sheet l.likes;
   running : Running l.sheet l.owners l.prices l.groups l.entitled l.initial.«record» l.«record» l.at.moves l.at.cuts l.at.stage;
-  tabled : Tabled l.sheet l.owners l.prices l.groups l.entitled l.likes l.first l.sets;
+  tabled : Tabled l.sheet l.owners l.prices l.groups l.entitled l.likes l.table.first l.table.sets;
   sees : Sees l.sheet l.groups l.at.view;
   scratch_sized : length l.scratch ≡ scratch_size;
 }

@@ -4,8 +4,7 @@ use Rattle.steps.proofs.fill_table.Goals as goal
 
 pub fill-requires : goal.fill-requires
 fill-requires c =
-    let pre = c.requires in
-    (rw c.agents-n.ensures.is pre.listed, pre.sized)
+    rw c.agents-n.ensures.is c.requires.listed
 
 pub returns : goal.returns
 returns c =

@@ -6,7 +6,7 @@ use Rattle.steps.proofs.hand_over.Goals as goal
 pub hand_on-requires : goal.hand_on-requires
 hand_on-requires c =
     let pre = c.requires in
-    (pre.listed, pre.sized, rw c.first_of-chore.ensures pre.chore, pre.receiver)
+    (pre.listed, rw c.first_of-chore.ensures pre.chore, pre.receiver)
 
 pub returns : goal.returns
 returns c =

@@ -13,11 +13,11 @@ use Rattle.strands.proofs.write_row.Goals as goal
 use Rattle.strands.proofs.write_row.Goals.{After-row_size}
 
 -- the first's whole bytes
-copied : (c : After-row_size) → put_mid c.args.at (c.args.at + c.args.m1 / 8 - c.args.at) c.args.joined.now c.copy_from_slice.new.self ≡ sets c.args.joined.now c.args.at (take (c.args.m1 / 8) c.args.row1.now)
+copied : (c : After-row_size) → put_mid c.args.at (c.args.at + c.args.m1 / 8 - c.args.at) c.args.joined.now c.copy_bytes.new.to ≡ sets c.args.joined.now c.args.at (take (c.args.m1 / 8) c.args.row1.now)
 copied c =
     let whole = c.args.m1 / 8 in
     let long : length (take whole c.args.row1.now) ≡ whole = length-take-le whole c.args.row1.now (omega (arith, c.requires.long₁)) in
-    rw c.copy_from_slice.ensures.after (put_over c.args.joined.now (take whole c.args.row1.now) c.args.at _ (omega (arith, c.requires.room)) (omega arith))
+    rw c.copy_bytes.ensures (put_over c.args.joined.now (take whole c.args.row1.now) c.args.at _ (omega (arith, c.requires.room)) (omega arith))
 
 -- the row is there as far as both have bytes
 written : (c : After-row_size) → Filling (both_rows c.args.row1.now c.args.m1 c.args.row2.now c.args.m2) c.args.joined.now c.args.at c.move_bytes-last.new.joined (c.args.m1 / 8 + length c.args.row2.now)

@@ -1,9 +1,8 @@
 use Rattle.std.proofs.Common.{arith}
-use Rattle.text.specs.Text.{ascii}
 use Rattle.text.specs.Lines.{prices_line}
 use Rattle.text.proofs.Sending.{list_shown}
 use Rattle.text.proofs.lines.prices_line.Goals as goal
 
 pub returns : goal.returns
 unfolding prices_line
-returns g c = rw (list_shown (ascii "prices") c.args.prices.now (λ k. omega (arith, c.type_inv.prices k))) at c.list_line.ensures
+returns g c = rw (list_shown _ c.args.prices.now (λ k. omega (arith, c.type_inv.prices k))) at c.list_line.ensures

@@ -10,7 +10,7 @@ use Rattle.waste.proofs.walk.write_dominating.Goals as goal
 pub loop-h-init : goal.loop-h-init
 loop-h-init c =
     let p = c.requires in
-    rw (c.copy_from_slice.ensures.after, c.chores.ensures.is) (way_start p.walkable.given p.walkable.rings p.wasting.chore p.wasting.hard p.wasting p.walkable.long)
+    rw (c.copy_bytes.ensures, c.chores.ensures.is) (way_start p.walkable.given p.walkable.rings p.wasting.chore p.wasting.hard p.wasting p.walkable.long)
 
 pub bounds-distances-h : goal.bounds-distances-h
 bounds-distances-h c =

@@ -1,27 +1,27 @@
-use Rattle.std.proofs.Common.{◌≡◌, ◌-◌, ◌<◌, length, get_or, refl, arith}
+use Rattle.std.proofs.Common.{◌≡◌, ◌-◌, ◌<◌, length, get_or, refl, arith, rules}
 use Rattle.model.specs.Instance.{owner_of}
 use Rattle.market.specs.Market.{entitled_of}
 use Rattle.firsts.specs.Traits.{has_trait}
 use Rattle.firsts.proofs.Filling.{filled_none, filled_next, filled_all, nothing_new}
-use Rattle.firsts.proofs.table.fill.Goals as goal
-use Rattle.firsts.proofs.table.fill.Goals.{else-sets-w, then-sets-w}
+use Rattle.firsts.proofs.table.Table.fill.Goals as goal
+use Rattle.firsts.proofs.table.Table.fill.Goals.{else-self-w, then-self-w}
 
 pub loop-c-init : goal.loop-c-init
-loop-c-init c = rw (c.fill.ensures.after (λ y h. h), c.fill-2.ensures.after (λ y h. h)) (filled_none _ _ _ _ c.requires.1 c.requires.0.agents)
+loop-c-init c = rw (c.fill.ensures.after (λ y h. h), c.fill-2.ensures.after (λ y h. h)) (filled_none _ _ _ _ (record { first_sized = search rules; sets_sized = search rules }) c.requires.agents)
 
 pub loop-c-preserved : goal.loop-c-preserved
 unfolding owner_of has_trait entitled_of
 loop-c-preserved c =
     let args = c.args in
-    let pre = c.requires.0 in
+    let pre = c.requires in
     let at = c.loop-c in
     let x = owner_of args.owners.now in
     let trait = has_trait args.prices.now args.entitled.now args.likes.now args.view.free args.view.grouped args.view.mid args.view.top in
     let known : get_or args.owners.now at.c 0 - 1 < args.n = omega (arith, pre.numbered at.c (omega arith), pre.known at.c (omega arith)) in
     filled_next x trait pre.agents (omega arith) refl known at.invariant c.traits-word.ensures
-    (elim c.if-sets-w.branch [
-      | then-sets-w w ↦ rw (w.first-is, w.sets-is) w.gain.ensures
-      | else-sets-w w ↦ rw (w.first-is, w.sets-is) (nothing_new x trait pre.agents (omega arith) refl known at.invariant c.traits-word.result w.if-sets-w.false)
+    (elim c.if-self-w.branch [
+      | then-self-w w ↦ rw w.self-is w.gain.ensures
+      | else-self-w w ↦ rw w.self-is (nothing_new x trait pre.agents (omega arith) refl known at.invariant c.traits-word.result w.if-self-w.false)
     ])
 
 pub returns : goal.returns

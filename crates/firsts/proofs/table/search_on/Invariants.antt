@@ -1,8 +1,0 @@
--- `firsts::table::search_on` meets its contract. The loop's invariant: the search among the chores before k.
-use Rattle.model.specs.Instance.{owner_of}
-use Rattle.firsts.specs.Traits.{has_trait}
-use Rattle.firsts.specs.Table.{SearchedOn}
-use Rattle.firsts.proofs.table.search_on.Given as goal
-
-abbrev pub invariant-loop-k : goal.invariant-loop-k
-invariant-loop-k l = SearchedOn l.k (owner_of l.owners) (has_trait l.prices l.entitled l.likes l.view.free l.view.grouped l.view.mid l.view.top) l.w l.c l.missing l.left l.initial.first l.first
