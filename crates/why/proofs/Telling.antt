@@ -1,8 +1,8 @@
 -- The text of one sheet, from what its share-out left.
 -- Assumes nothing.
-use Prim.Native.Nat.{ℕ, ◌*◌, ◌≤◌}
+use Prim.Native.Nat.{ℕ, ◌*◌}
 use mathlib.Core.List.{List}
-use mathlib.Core.Path.{◌≡◌, sym, ◌∙◌}
+use mathlib.Core.Path.{◌≡◌}
 use native.Mathlib.Omega.{arith}
 use lib.ListN.{length, take, replicate}
 use lib.Seq.{length-take-le}
@@ -12,7 +12,7 @@ use Rattle.std.proofs.KnownBytes.{Appends-trans}
 use Rattle.std.proofs.lemmas.List.{take-replicate, length-replicate}
 use Rattle.model.specs.declared.ShareOut.{ShareOut}
 use Rattle.model.specs.Limits.{max_chores}
-use Rattle.model.specs.Sheet.{agents_of, chores_of, as_read}
+use Rattle.model.specs.Sheet.{chores_of, as_read}
 use Rattle.model.specs.Algorithm.{opening}
 use Rattle.model.specs.Record.{Move, move_size, record_of}
 use Rattle.sheet.specs.Valid.{Valid}

@@ -1,10 +1,9 @@
 -- The text of one sheet, from what its share-out leaves: what the functions that write it are given.
 use Rattle.std.specs.Prelude.{ℕ, ◌*◌, ◌≤◌, List, ◌≡◌, length, take}
-use Rattle.model.specs.Sheet.{chores_of, as_read}
+use Rattle.model.specs.Sheet.{as_read}
 use Rattle.model.specs.Algorithm.{opening}
 use Rattle.model.specs.Record.{move_size, record_of}
 use Rattle.model.specs.Refusals.{sheet_refusal, record_refusal}
-use Rattle.sheet.specs.Valid.{Valid}
 use Rattle.sheet.proofs.OrElse.{or_else_zero}
 use Rattle.allocation.specs.Final.{final_of}
 use Rattle.recorded.specs.Moves.{moves_for}

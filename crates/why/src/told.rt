@@ -1,7 +1,7 @@
 // The text of one sheet, from what its share-out answered and left in the lists lent to it.
-ghost use Rattle.std.specs.Prelude.{List, ◌≡◌, OnOk};
+ghost use Rattle.std.specs.Prelude.{List, ◌≡◌, OnOk, length};
 ghost use Rattle.std.specs.Io.KnownBytes.{Appends};
-ghost use Rattle.model.specs.Sheet.{as_read};
+ghost use Rattle.model.specs.Sheet.{chores_of, as_read};
 ghost use Rattle.model.specs.Algorithm.{opening};
 ghost use Rattle.model.specs.Record.{Move, record_of};
 ghost use Rattle.pages.specs.Printer.{text_of};
