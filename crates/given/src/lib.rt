@@ -65,5 +65,5 @@ pub fn first_burden(sheet: &Sheet, owners: &[u8], i: usize) -> Option<usize>
     requires i_bound { i < agents_of sheet.now }
     ensures { result ≡ if_below (chores_of sheet.now) (first_below (chores_of sheet.now) (burdens sheet.now owners.now i)) }
 {
-    (0..owners.len()).find(|&c| owner(owners, c) == i && !sheet.is_easy(i, c))
+    (0..sheet.chores()).find(|&c| owner(owners, c) == i && !sheet.is_easy(i, c))
 }

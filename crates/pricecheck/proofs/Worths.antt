@@ -90,12 +90,12 @@ pub weighed_fits : {s : List ℕ} {a b : ℕ} → Weighed s a b → b ≤ max_we
 weighed_fits w = rw w.difficult w.valid.weight_fits
 
 -- the chores of a column
-module _ {s prices : List ℕ} {a b k count : ℕ} (col : Column s prices a b k count) where
+module _ {s prices : List ℕ} {k count : ℕ} (col : Column s prices k count) {a b : ℕ} (w : Weighed s a b) where
   pub column_eight : UpToEight prices a b (8 * k) count
   column_eight =
       record {
-        easier = weighed_easier col.weighed;
-        fits = weighed_fits col.weighed;
+        easier = weighed_easier w;
+        fits = weighed_fits w;
         few = col.few;
         inside = rw col.priced.size col.inside;
         bounded = λ c l. col.priced.bounded c (rw col.priced.size at l);
@@ -104,7 +104,7 @@ module _ {s prices : List ℕ} {a b k count : ℕ} (col : Column s prices a b k 
   in_byte : (i j : ℕ) → j < 8 → worth (as_marked s) (price_of prices) i (8 * k + j) ≡ worth_in a b prices (8 * k) (get_or (row_of s i) k 0) j
   unfolding worth worth_in as_marked marks_easy
   in_byte i j l =
-      rw (mark_in_row s i k j l, col.weighed.easy, col.weighed.difficult, cond-not (bit (get_or (row_of s i) k 0) (7 - j)) (difficult_weight s) (easy_weight s))
+      rw (mark_in_row s i k j l, w.easy, w.difficult, cond-not (bit (get_or (row_of s i) k 0) (7 - j)) (difficult_weight s) (easy_weight s))
 
   -- the greatest worth with them
   with_column : (i : ℕ) → greatest_to s prices (8 * k + count) i ≡ max (greatest_to s prices (8 * k) i) (max_to count (worth_in a b prices (8 * k) (get_or (row_of s i) k 0)))
@@ -119,7 +119,7 @@ module _ {s prices : List ℕ} {a b k count : ℕ} (col : Column s prices a b k 
     -- no more even if all are marked easy
     pub column_passed : {most : ℕ} → most ≡ max 0 (max_to count (worth_in a b prices (8 * k) 0)) → most ≤ known → known ≡ greatest_to s prices (8 * k + count) i
     column_passed told l =
-        let h = top_at_most count (λ j l. le_trans (easy_most prices (8 * k) (get_or (row_of s i) k 0) j (weighed_easier col.weighed)) (top_above (worth_in a b prices (8 * k) 0) j l)) in
+        let h = top_at_most count (λ j l. le_trans (easy_most prices (8 * k) (get_or (row_of s i) k 0) j (weighed_easier w)) (top_above (worth_in a b prices (8 * k) 0) j l)) in
         omega (arith, so_far, told, h, with_column i)
 
   -- if they are worth anything, rows have such a byte

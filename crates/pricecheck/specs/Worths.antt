@@ -6,7 +6,7 @@ use Rattle.finite.specs.Lists.{Picks}
 use Rattle.model.specs.Limits.{max_agents, max_weight, max_price}
 use Rattle.model.specs.Instance.{Instance, price_of}
 use Rattle.model.specs.Sheet.{agents_of, chores_of, as_marked}
-use Rattle.given.specs.Given.{Weighed, Marked}
+use Rattle.given.specs.Given.{Marked}
 
 -- the price of chore c times the weight that it does not cost agent i
 unfoldable pub worth : Instance → (ℕ → ℕ) → ℕ → ℕ → ℕ
@@ -30,9 +30,8 @@ pub record UpToEight (prices : List ℕ) (a b first count : ℕ) : Type 0 where
   pub inside : first + count ≤ length prices
   pub bounded : (c : ℕ) → c < length prices → get_or prices c 0 ≤ max_price
 
--- the weights; each chore has a price, from 1 to 1,000,000; of chores 8 k .. 8 k + count - 1 the marks are in byte k of each row
-pub record Column (s prices : List ℕ) (a b k count : ℕ) : Type 0 where
-  pub weighed : Weighed s a b
+-- each chore has a price, from 1 to 1,000,000; of some, 8 k .. 8 k + count - 1, the marks are in byte k of each row
+pub record Column (s prices : List ℕ) (k count : ℕ) : Type 0 where
   pub priced : Picks max_price (chores_of s) prices
   pub few : count ≤ 8
   pub inside : 8 * k + count ≤ chores_of s

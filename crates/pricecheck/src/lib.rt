@@ -78,23 +78,24 @@ fn greatest_in_byte(
 }
 
 // The greatest worths so far, with `count` chores more: those whose marks are in byte k of a row. To nobody are they worth more than if all were
-// marked easy, so most agents' marks need not be read; none are where `count` is 0. The weights a and b are read once for all columns.
+// marked easy, so most agents' marks need not be read; none are where `count` is 0.
 fn raise(
     sheet: &Sheet,
     prices: &[u32],
-    a: u32,
-    b: u32,
     k: usize,
     count: usize,
     greatest: &mut [u32; model::MAX_AGENTS],
 )
-    requires column { Column sheet.now prices.now a b k count }
+    requires column { Column sheet.now prices.now k count }
     requires greatest { Greatest sheet.now prices.now (8 * k) greatest.old }
     ensures { Greatest sheet.now prices.now (8 * k + count) greatest.new }
 {
+    let n = sheet.agents();
+    let a = sheet.easy_weight();
+    let b = sheet.difficult_weight();
     let first = 8 * k;
     let most = greatest_in_byte(0, prices, first, count, a, b, 0);
-    for i in 0..sheet.agents() {
+    for i in 0..n {
         let known = greatest[i];
         if known < most {
             let byte = sheet.row_byte(i, k);
@@ -109,13 +110,11 @@ fn greatest_worths(sheet: &Sheet, prices: &[u32]) -> [u32; model::MAX_AGENTS]
     ensures { Greatest sheet.now prices.now (chores_of sheet.now) result }
 {
     let m = sheet.chores();
-    let a = sheet.easy_weight();
-    let b = sheet.difficult_weight();
     let mut greatest = [0; model::MAX_AGENTS];
     for k in 0..m / 8 {
-        raise(sheet, prices, a, b, k, 8, &mut greatest);
+        raise(sheet, prices, k, 8, &mut greatest);
     }
-    raise(sheet, prices, a, b, m / 8, m % 8, &mut greatest);
+    raise(sheet, prices, m / 8, m % 8, &mut greatest);
     greatest
 }
 

@@ -1,4 +1,3 @@
-use Rattle.std.specs.Prelude.{length}
 use Rattle.std.proofs.Common.{rules, tests}
 use Rattle.finite.proofs.Found.{found_in}
 use Rattle.model.specs.Fairness.{owns}
@@ -8,5 +7,5 @@ use Rattle.given.proofs.first_burden.Goals as goal
 pub returns : goal.returns
 unfolding burdens owns
 returns c =
-    rw (← c.requires.given.size)
-    (found_in (length c.args.owners.now) (burdens c.args.sheet.now c.args.owners.now c.args.i) _ _ c.find.result c.find.ensures.ran (λ x b q k. search (rules, tests)))
+    rw (← c.chores.ensures.is)
+    (found_in c.chores.result (burdens c.args.sheet.now c.args.owners.now c.args.i) _ _ c.find.result c.find.ensures.ran (λ x b q k. search (rules, tests)))

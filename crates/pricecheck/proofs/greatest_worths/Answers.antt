@@ -3,22 +3,16 @@ use mathlib.Core.Path.{◌≡◌}
 use native.Mathlib.Omega.{arith}
 use Rattle.std.proofs.Common.{rules}
 use Rattle.model.specs.Sheet.{chores_of}
-use Rattle.given.specs.Given.{Weighed}
 use Rattle.pricecheck.proofs.Worths.{greatest_none}
 use Rattle.pricecheck.proofs.greatest_worths.Goals as goal
-use Rattle.pricecheck.proofs.greatest_worths.Goals.{After-difficult_weight-b}
 
 pub loop-k-init : goal.loop-k-init
 loop-k-init c =
     greatest_none c.chores-m.ensures.valid.agents_fit (search rules)
 
-weighed : (c : After-difficult_weight-b) → Weighed c.args.sheet.now c.easy_weight-a.result c.difficult_weight-b.result
-weighed c = record { valid = c.chores-m.ensures.valid; easy = c.easy_weight-a.ensures; difficult = c.difficult_weight-b.ensures }
-
 pub raise-requires : goal.raise-requires
 raise-requires c =
-    let w = weighed (goal.at.raise-requires c).After-difficult_weight-b in
-    record { column = record { weighed = w; priced = c.requires; few = omega arith; inside = omega (arith, c.loop-k-test.true, c.chores-m.ensures.is) }; greatest = c.loop-k.invariant }
+    record { column = record { priced = c.requires; few = omega arith; inside = omega (arith, c.loop-k-test.true, c.chores-m.ensures.is) }; greatest = c.loop-k.invariant }
 
 pub loop-k-preserved : goal.loop-k-preserved
 loop-k-preserved c =
@@ -29,8 +23,7 @@ loop-k-preserved c =
 pub raise-requires-2 : goal.raise-requires-2
 raise-requires-2 c =
     let all : c.loop-k.k ≡ c.chores-m.result / 8 = omega arith in
-    let w = weighed (goal.at.raise-requires-2 c).After-difficult_weight-b in
-    record { column = record { weighed = w; priced = c.requires; few = omega arith; inside = omega (arith, c.chores-m.ensures.is) }; greatest = rw all at c.loop-k.invariant }
+    record { column = record { priced = c.requires; few = omega arith; inside = omega (arith, c.chores-m.ensures.is) }; greatest = rw all at c.loop-k.invariant }
 
 pub returns : goal.returns
 returns c =
