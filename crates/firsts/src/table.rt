@@ -7,7 +7,7 @@ ghost use Rattle.firsts.specs.Traits.{trait_count, has_trait};
 ghost use Rattle.firsts.specs.Table.{Sized, Spot, Firsts, Listed, SearchedOn, Lost, HandedOn};
 
 use crate::rows::{not_before, put};
-use crate::traits::{TRAITS, View, traits};
+use crate::traits::{Chores, TRAITS};
 
 // For each agent and each trait the first chore, a row of entries for each agent, and for each agent the set of its chores' traits.
 #[derive(Drop)]
@@ -29,24 +29,16 @@ impl Table {
     }
 
     // In one pass over the chores: each agent's first chore of each trait.
-    pub fn fill(
-        &mut self,
-        n: usize,
-        owners: &[u8],
-        prices: &[u32],
-        entitled: &[u8],
-        likes: &[u32],
-        view: View,
-    )
-        requires { Listed n owners.now prices.now entitled.now likes.now }
-        ensures { Firsts n (length owners.now) (owner_of owners.now) (has_trait prices.now entitled.now likes.now view.free view.grouped view.mid view.top) self.new.first self.new.sets }
+    pub fn fill(&mut self, n: usize, owners: &[u8], chores: &Chores)
+        requires { Listed n owners.now chores.now.prices.now chores.now.entitled.now chores.now.likes.now }
+        ensures { Firsts n (length owners.now) (owner_of owners.now) (has_trait chores.now.prices.now chores.now.entitled.now chores.now.likes.now chores.now.view.free chores.now.view.grouped chores.now.view.mid chores.now.view.top) self.new.first self.new.sets }
     {
         // No trait has a chore yet, for which the number of chores stands.
         self.first[..n * TRAITS].fill(owners.len() as u16);
         self.sets[..n].fill(0);
         for c in 0..owners.len() {
             let w = owners[c] as usize - 1;
-            let word = traits(prices[c], entitled[c], likes[c], view);
+            let word = chores.traits(c);
             if self.sets[w] | word != self.sets[w] {
                 self.gain(w, c, word);
             }
@@ -54,19 +46,9 @@ impl Table {
     }
 
     // The search for agent w's next chore after c with each of the missing traits. Answers the traits that none has.
-    fn search_on(
-        &mut self,
-        owners: &[u8],
-        prices: &[u32],
-        entitled: &[u8],
-        likes: &[u32],
-        view: View,
-        w: usize,
-        c: usize,
-        missing: u64,
-    ) -> u64
-        requires { Listed max_agents owners.now prices.now entitled.now likes.now × (w < max_agents) × (missing < 2 ^ trait_count) × (c < length owners.now) }
-        ensures row { SearchedOn (length owners.now) (owner_of owners.now) (has_trait prices.now entitled.now likes.now view.free view.grouped view.mid view.top) w c missing result self.old.first self.new.first }
+    fn search_on(&mut self, owners: &[u8], chores: &Chores, w: usize, c: usize, missing: u64) -> u64
+        requires { Listed max_agents owners.now chores.now.prices.now chores.now.entitled.now chores.now.likes.now × (w < max_agents) × (missing < 2 ^ trait_count) × (c < length owners.now) }
+        ensures row { SearchedOn (length owners.now) (owner_of owners.now) (has_trait chores.now.prices.now chores.now.entitled.now chores.now.likes.now chores.now.view.free chores.now.view.grouped chores.now.view.mid chores.now.view.top) w c missing result self.old.first self.new.first }
         ensures sets { self.new.sets ≡ self.old.sets }
     {
         let mut left = missing;
@@ -75,7 +57,7 @@ impl Table {
                 break;
             }
             if owners[k] as usize - 1 == w {
-                let found = left & traits(prices[k], entitled[k], likes[k], view);
+                let found = left & chores.traits(k);
                 put(&mut self.first, w, k, found);
                 left ^= found;
             }
@@ -84,44 +66,25 @@ impl Table {
     }
 
     // Agent w loses chore c, which has these traits: where it was the first, the search goes on from it.
-    fn lose(
-        &mut self,
-        owners: &[u8],
-        prices: &[u32],
-        entitled: &[u8],
-        likes: &[u32],
-        view: View,
-        w: usize,
-        c: usize,
-        word: u64,
-    )
-        requires listed { Listed max_agents owners.now prices.now entitled.now likes.now × (w < max_agents) × (c < length owners.now) }
-        requires set_of { SetOf trait_count word (λ t. has_trait prices.now entitled.now likes.now view.free view.grouped view.mid view.top t c) }
-        ensures { Lost (length owners.now) (owner_of owners.now) (has_trait prices.now entitled.now likes.now view.free view.grouped view.mid view.top) w c self.old.first self.old.sets self.new.first self.new.sets }
+    fn lose(&mut self, owners: &[u8], chores: &Chores, w: usize, c: usize, word: u64)
+        requires listed { Listed max_agents owners.now chores.now.prices.now chores.now.entitled.now chores.now.likes.now × (w < max_agents) × (c < length owners.now) }
+        requires set_of { SetOf trait_count word (λ t. has_trait chores.now.prices.now chores.now.entitled.now chores.now.likes.now chores.now.view.free chores.now.view.grouped chores.now.view.mid chores.now.view.top t c) }
+        ensures { Lost (length owners.now) (owner_of owners.now) (has_trait chores.now.prices.now chores.now.entitled.now chores.now.likes.now chores.now.view.free chores.now.view.grouped chores.now.view.mid chores.now.view.top) w c self.old.first self.old.sets self.new.first self.new.sets }
     {
         let missing = not_before(&self.first, w, c, word);
-        let left = self.search_on(owners, prices, entitled, likes, view, w, c, missing);
+        let left = self.search_on(owners, chores, w, c, missing);
         put(&mut self.first, w, owners.len(), left);
         self.sets[w] ^= left;
     }
 
     // The chore goes from its owner to agent u, in the list and in the table.
-    pub fn hand_on(
-        &mut self,
-        owners: &mut [u8],
-        prices: &[u32],
-        entitled: &[u8],
-        likes: &[u32],
-        view: View,
-        chore: usize,
-        u: usize,
-    )
-        requires { Listed max_agents owners.old prices.now entitled.now likes.now × (chore < length owners.old) × (u < max_agents) }
-        ensures { HandedOn (has_trait prices.now entitled.now likes.now view.free view.grouped view.mid view.top) chore u owners.old self.old.first self.old.sets owners.new self.new.first self.new.sets }
+    pub fn hand_on(&mut self, owners: &mut [u8], chores: &Chores, chore: usize, u: usize)
+        requires { Listed max_agents owners.old chores.now.prices.now chores.now.entitled.now chores.now.likes.now × (chore < length owners.old) × (u < max_agents) }
+        ensures { HandedOn (has_trait chores.now.prices.now chores.now.entitled.now chores.now.likes.now chores.now.view.free chores.now.view.grouped chores.now.view.mid chores.now.view.top) chore u owners.old self.old.first self.old.sets owners.new self.new.first self.new.sets }
     {
         let w = owners[chore] as usize - 1;
-        let word = traits(prices[chore], entitled[chore], likes[chore], view);
-        self.lose(owners, prices, entitled, likes, view, w, chore, word);
+        let word = chores.traits(chore);
+        self.lose(owners, chores, w, chore, word);
         self.gain(u, chore, word);
         owners[chore] = u as u8 + 1;
     }

@@ -1,7 +1,7 @@
 // What the table tells chores apart by.
-ghost use Rattle.std.specs.Prelude.{◌≡◌, eqb};
+ghost use Rattle.std.specs.Prelude.{◌<◌, ◌≡◌, eqb, length};
 ghost use Rattle.finite.specs.Bits.{SetOf};
-ghost use Rattle.firsts.specs.Traits.{trait_count, wanting_word, trait_in};
+ghost use Rattle.firsts.specs.Traits.{trait_count, wanting_word, trait_in, has_trait};
 
 // Bit j of a chore's traits says that agent j wants it; the others follow.
 pub const TRAITS: usize = 35;
@@ -35,7 +35,7 @@ fn wanting(likes: u32, entitled: u8, view: View) -> u32
 }
 
 // A chore's traits as the bits of a word.
-pub fn traits(price: u32, entitled: u8, likes: u32, view: View) -> u64
+fn traits(price: u32, entitled: u8, likes: u32, view: View) -> u64
     ensures { SetOf trait_count result (trait_in price (eqb entitled 1) likes view.free view.grouped view.mid view.top) }
 {
     let mut word = wanting(likes, entitled, view) as u64;
@@ -49,4 +49,24 @@ pub fn traits(price: u32, entitled: u8, likes: u32, view: View) -> u64
         word |= 1 << MID;
     }
     word
+}
+
+// The chores as the table tells them apart: their lists, and the view.
+#[derive(Clone, Copy)]
+pub struct Chores<'a> {
+    pub prices: &'a [u32],
+    pub entitled: &'a [u8],
+    pub likes: &'a [u32],
+    pub view: View,
+}
+
+impl Chores<'_> {
+    // Chore c's traits.
+    #[tactic(auto, unfolding(crate::specs::Traits::has_trait, market::specs::Market::entitled_of))]
+    pub fn traits(&self, c: usize) -> u64
+        requires { (c < length self.now.prices.now) × (c < length self.now.entitled.now) × (c < length self.now.likes.now) }
+        ensures { SetOf trait_count result (λ t. has_trait self.now.prices.now self.now.entitled.now self.now.likes.now self.now.view.free self.now.view.grouped self.now.view.mid self.now.view.top t c) }
+    {
+        traits(self.prices[c], self.entitled[c], self.likes[c], self.view)
+    }
 }

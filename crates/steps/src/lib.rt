@@ -9,7 +9,7 @@ ghost use Rattle.steps.specs.Turns.{Filling, Tabled, Turning, Turned};
 ghost use Rattle.steps.specs.Parts.{Handing, HandedOver, Cutting, CutOff};
 
 use firsts::table::Table;
-use firsts::traits::View;
+use firsts::traits::{Chores, View};
 use market::cuts::{cut_groups, cut_prices};
 use rings::line::reached;
 use seeking::{Due, Move, seek, view_of};
@@ -51,22 +51,19 @@ pub fn fill_table(
     ensures { Tabled sheet.now owners.now prices.now groups.now entitled.now likes.now table.new.first table.new.sets }
 {
     let n = sheet.agents();
-    let view = view_of(sheet, groups);
-    table.fill(n, owners, prices, entitled, likes, view);
+    let chores = Chores {
+        prices,
+        entitled,
+        likes,
+        view: view_of(sheet, groups),
+    };
+    table.fill(n, owners, &chores);
 }
 
 // The giver's first chore with the trait goes to the receiver.
-fn hand_over(
-    owners: &mut [u8],
-    prices: &[u32],
-    entitled: &[u8],
-    likes: &[u32],
-    view: View,
-    table: &mut Table,
-    due: Move,
-) -> Turn
-    requires { Handing owners.old prices.now entitled.now likes.now table.old.first table.old.sets due.giver due.receiver due.sought }
-    ensures { HandedOver (has_trait prices.now entitled.now likes.now view.free view.grouped view.mid view.top) due.giver due.receiver due.sought owners.old table.old.first table.old.sets result owners.new table.new.first table.new.sets }
+fn hand_over(owners: &mut [u8], chores: &Chores, table: &mut Table, due: Move) -> Turn
+    requires { Handing owners.old chores.now.prices.now chores.now.entitled.now chores.now.likes.now table.old.first table.old.sets due.giver due.receiver due.sought }
+    ensures { HandedOver (has_trait chores.now.prices.now chores.now.entitled.now chores.now.likes.now chores.now.view.free chores.now.view.grouped chores.now.view.mid chores.now.view.top) due.giver due.receiver due.sought owners.old table.old.first table.old.sets result owners.new table.new.first table.new.sets }
 {
     let Move {
         giver,
@@ -74,7 +71,7 @@ fn hand_over(
         sought,
     } = due;
     let chore = table.first_of(giver, sought);
-    table.hand_on(owners, prices, entitled, likes, view, chore, receiver);
+    table.hand_on(owners, chores, chore, receiver);
     Turn::Moved {
         chore,
         giver,
@@ -130,7 +127,15 @@ pub fn step(
         scratch,
         at.stage,
     ) {
-        Due::Hand(due) => hand_over(owners, prices, entitled, likes, view, table, due),
+        Due::Hand(due) => {
+            let chores = Chores {
+                prices,
+                entitled,
+                likes,
+                view,
+            };
+            hand_over(owners, &chores, table, due)
+        }
         Due::Pass => Turn::Passed,
         Due::Cut => {
             cut(sheet, owners, prices, groups, entitled, scratch, at.cuts);

@@ -9,4 +9,4 @@ fill-requires c =
 pub returns : goal.returns
 returns c =
     let pre = c.requires in
-    tabled_by c.view_of-view.ensures (rw (c.agents-n.ensures.is, pre.owners_sized) at c.fill.ensures)
+    tabled_by c.view_of.ensures (rw (c.agents-n.ensures.is, pre.owners_sized) at c.fill.ensures)

@@ -6,4 +6,4 @@ use Rattle.firsts.proofs.Filling.{Filled}
 use Rattle.firsts.proofs.table.Table.fill.Given as goal
 
 abbrev pub invariant-loop-c : goal.invariant-loop-c
-invariant-loop-c l = Filled l.n (length l.owners) (owner_of l.owners) (has_trait l.prices l.entitled l.likes l.view.free l.view.grouped l.view.mid l.view.top) l.c l.self.first l.self.sets
+invariant-loop-c l = Filled l.n (length l.owners) (owner_of l.owners) (has_trait l.chores.prices.now l.chores.entitled.now l.chores.likes.now l.chores.view.free l.chores.view.grouped l.chores.view.mid l.chores.view.top) l.c l.self.first l.self.sets

@@ -2,8 +2,6 @@ use Rattle.std.proofs.Common.{◌≤◌, ◌<◌, length, refl, arith}
 use borrow.Author.Tests.{eq-eqb, ne_eqb}
 use Rattle.model.specs.Instance.{owner_of}
 use Rattle.model.specs.Fairness.{owns}
-use Rattle.market.specs.Market.{entitled_of}
-use Rattle.firsts.specs.Traits.{has_trait}
 use Rattle.firsts.proofs.Searching.{searched_none, searched_past, searched-next, searched_all}
 use Rattle.firsts.proofs.table.Table.search_on.Goals as goal
 use Rattle.firsts.proofs.table.Table.search_on.Goals.{else-owners-k, then-owners-k}
@@ -12,7 +10,7 @@ pub loop-k-init : goal.loop-k-init
 loop-k-init c = record { row = searched_none _ _ _ _ _ c.requires.2; sets = refl }
 
 pub loop-k-preserved : goal.loop-k-preserved
-unfolding owns owner_of has_trait entitled_of
+unfolding owns owner_of
 loop-k-preserved c =
     let later : c.args.c < c.loop-k.k = omega arith in
     let inv = c.loop-k.invariant in

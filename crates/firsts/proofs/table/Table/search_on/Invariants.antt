@@ -7,6 +7,6 @@ use Rattle.firsts.proofs.table.Table.search_on.Given as goal
 
 abbrev pub invariant-loop-k : goal.invariant-loop-k
 invariant-loop-k l = record {
-  row : SearchedOn l.k (owner_of l.owners) (has_trait l.prices l.entitled l.likes l.view.free l.view.grouped l.view.mid l.view.top) l.w l.c l.missing l.left l.initial.self.first l.self.first;
+  row : SearchedOn l.k (owner_of l.owners) (has_trait l.chores.prices.now l.chores.entitled.now l.chores.likes.now l.chores.view.free l.chores.view.grouped l.chores.view.mid l.chores.view.top) l.w l.c l.missing l.left l.initial.self.first l.self.first;
   sets : l.self.sets ≡ l.initial.self.sets;
 }
