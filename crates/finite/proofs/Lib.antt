@@ -8,6 +8,7 @@ pub mod Counts
 pub mod Fibres
 pub mod Moves
 pub mod Lists
+pub mod Stored
 pub mod LeastList
 pub mod Passing
 pub mod Rewriting

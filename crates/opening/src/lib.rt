@@ -46,8 +46,9 @@ fn add_row(sheet: &[u8], m: usize, i: usize, likes: &mut [u32])
     for k in 0..full {
         add_byte(sheet, m, i, k, 8, likes);
     }
-    if 8 * full < m {
-        add_byte(sheet, m, i, full, m - 8 * full, likes);
+    let left = m % 8;
+    if left > 0 {
+        add_byte(sheet, m, i, full, left, likes);
     }
 }
 

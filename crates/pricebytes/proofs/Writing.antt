@@ -3,7 +3,6 @@
 use Prim.Native.Nat.{ℕ, ◌+◌, ◌*◌, ◌≤◌, ◌<◌}
 use mathlib.Core.List.{List, [], ◌∷◌, ◌++◌, append_assoc}
 use mathlib.Core.Path.{◌≡◌, refl, sym, ap, ◌∙◌}
-use borrow.Rule.Slice.PartMut.{put_mid}
 use native.Mathlib.Numerals.{add-one}
 use native.Mathlib.Omega.{arith}
 use lib.ListN.{length, get_or, take, drop, length-append, length-drop}
@@ -23,11 +22,6 @@ bytes-append (p ∷ ps) qs = rw (bytes-append ps qs)
 pub bytes_one : (p : ℕ) → bytes_of (p ∷ []) ≡ four_bytes p
 unfolding bytes_of
 bytes_one p = refl
-
--- some bytes written over those from i on
-pub put_over : (bytes vs : List ℕ) (i k : ℕ) → i + length vs ≤ length bytes → k ≡ length vs → put_mid i k bytes vs ≡ sets bytes i vs
-put_over bytes vs i k l e =
-    rw (e, drop-drop (length vs) i bytes) (sym (sets-eq vs bytes i l ∙ append_assoc (take i bytes) vs (drop (i + length vs) bytes)))
 
 module _ (ps bytes : List ℕ) where
   pub with_none : with_prices 0 ps bytes ≡ bytes

@@ -26,7 +26,8 @@ fn begin(sheet: &[u8], groups: &[u8]) -> Stand
     }
 }
 
-// From the opening to the stop in 2b. A cut starts 2a at the group before the new one. Moves that the record has no room for are counted only.
+// From the opening to the stop in 2b. How many turns that takes is not known before, so the loop has a measure and no range. A cut starts 2a at
+// the group before the new one. Moves that the record has no room for are counted only.
 fn take_turns(
     sheet: &[u8],
     owners: &mut [u8],

@@ -6,12 +6,23 @@ use mathlib.Core.Path.{◌≡◌, refl, sym, ap, ap₂, ◌∙◌}
 use native.Mathlib.Nat.{add-zero}
 use native.Mathlib.Numerals.{add-one}
 use native.Mathlib.Omega.{arith}
-use lib.ListN.{length, take, drop, get_or, set, length-drop}
+use borrow.Rule.Slice.PartMut.{put_mid}
+use lib.ListN.{length, take, drop, get_or, set, length-set, length-drop}
 use lib.Seq.{sets, length-sets, length-take-le, ext_get_or, get_or-take, get_or-drop, take-add, take_all}
 use Rattle.finite.proofs.Below.{none_below, by_top}
 use Rattle.finite.proofs.Lists.{tab_length, tab_at, sets_append}
+use Rattle.finite.proofs.Stored.{put_over}
 use Rattle.sheet.specs.Readers.{Read}
 use Rattle.strands.specs.Parts.{moved_byte, moved_bytes, Moved}
+
+-- a byte at the front, two after it, and four more
+pub header_stores : (joined weights : List ℕ) (a b c : ℕ) → 7 ≤ length joined → length weights ≡ 4 → put_mid 3 4 (put_mid 1 2 (set joined 0 a) (b ∷ c ∷ [])) weights ≡ sets joined 0 (a ∷ b ∷ c ∷ weights)
+header_stores joined weights a b c room four =
+    let one = set joined 0 a in
+    let count = b ∷ c ∷ [] in
+    let long : length one ≡ length joined = simp length-set in
+    let after : length (sets one 1 count) ≡ length joined = length-sets one 1 count ∙ long in
+    rw (put_over one count 1 2 (omega arith) refl, put_over (sets one 1 count) weights 3 4 (omega arith) (sym four))
 
 -- the first k bytes of a row are written from at on
 pub record Filling (row joined : List ℕ) (at : ℕ) (joined' : List ℕ) (k : ℕ) : Type 0 where

@@ -1,18 +1,16 @@
 -- Refusals of two strands: where both sheets pass, their headers are there; where both can be joined, what is shown lies in one of them.
 -- Assumes nothing.
 use Prim.Native.Nat.{ℕ, ◌≤◌, ◌<◌}
-use mathlib.Core.Bool.{not}
 use mathlib.Core.List.{List}
 use mathlib.Core.Path.{◌≡◌}
-use lib.Dec.{ltb}
 use lib.ListN.{length}
-use Rattle.model.specs.Limits.{max_chores, out_of_range}
+use Rattle.model.specs.Limits.{out_of_range}
 use Rattle.model.specs.Sheet.{agents_of}
-use Rattle.model.specs.Strands.{agree, joined_chores, joined_sheet}
-use Rattle.model.specs.Refusals.{◌or_else◌, ◌when◌, sheet_refusal, lent_refusal, strands_refusal, join_refusal, show_refusal}
+use Rattle.model.specs.Strands.{joined_sheet}
+use Rattle.model.specs.Refusals.{sheet_refusal, lent_refusal, strands_refusal, join_refusal, show_refusal}
 use Rattle.model.proofs.Range.{range_facts}
 use Rattle.sheet.specs.Valid.{Joinable}
-use Rattle.sheet.proofs.OrElse.{or_else_zero, or_else_assoc, peel}
+use Rattle.sheet.proofs.OrElse.{or_else_zero, peel}
 use Rattle.sheet.proofs.Refusal.{valid, lent_room}
 use Rattle.sheet.proofs.Strands.{joinable}
 use Rattle.strands.specs.Parts.{Headers}

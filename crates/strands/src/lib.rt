@@ -19,10 +19,9 @@ fn agree(first: &[u8], second: &[u8]) -> bool
     requires { Headers first.now second.now }
     ensures { result ≡ agree first.now second.now }
 {
-    let agents = sheet::agents(first) == sheet::agents(second);
-    let easy = sheet::easy_weight(first) == sheet::easy_weight(second);
-    let difficult = sheet::difficult_weight(first) == sheet::difficult_weight(second);
-    agents && (easy && difficult)
+    sheet::agents(first) == sheet::agents(second)
+        && sheet::easy_weight(first) == sheet::easy_weight(second)
+        && sheet::difficult_weight(first) == sheet::difficult_weight(second)
 }
 
 fn joined_chores(first: &[u8], second: &[u8]) -> usize
@@ -80,19 +79,6 @@ pub fn admit_show<'a>(
     Ok(())
 }
 
-// The first bytes of a row, as they are.
-fn copy_bytes(row: &[u8], count: usize, joined: &mut [u8], at: usize)
-    requires count_in_bounds { count ≤ length row.now }
-    requires count_in_bounds_2 { at + count ≤ length joined.old }
-    ensures { joined.new ≡ sets joined.old at (take count row.now) }
-{
-    let mut k = 0;
-    while k < count {
-        joined[at + k] = row[k];
-        k += 1;
-    }
-}
-
 // The marks after a row's last whole byte, as the lowest bits of a byte.
 fn seam_bits(row: &[u8], m: usize) -> u32
     requires { length row.now ≡ bytes_for m }
@@ -120,12 +106,10 @@ fn move_bytes(before: u32, row: &[u8], shift: usize, joined: &mut [u8], at: usiz
     ensures { Moved before row.now shift joined.old at joined.new result }
 {
     let mut high = before;
-    let mut k = 0;
-    while k < row.len() {
-        let low = sheet::byte_at(row, k);
+    for (k, &byte) in row.iter().enumerate() {
+        let low = byte as u32;
         joined[at + k] = moved_byte(high, low, shift);
         high = low;
-        k += 1;
     }
     high
 }
@@ -138,7 +122,7 @@ fn write_row(row1: &[u8], m1: usize, row2: &[u8], m2: usize, joined: &mut [u8], 
 {
     let whole = m1 / 8;
     let shift = m1 % 8;
-    copy_bytes(row1, whole, joined, at);
+    joined[at..at + whole].copy_from_slice(&row1[..whole]);
     let last = move_bytes(seam_bits(row1, m1), row2, shift, joined, at + whole);
     let end = whole + row2.len();
     if end < sheet::row_size(m1 + m2) {
@@ -154,12 +138,10 @@ fn write_rows(first: &[u8], second: &[u8], joined: &mut [u8])
     let n = sheet::agents(first);
     let m1 = sheet::chores(first);
     let m2 = sheet::chores(second);
-    let mut i = 0;
-    while i < n {
+    for i in 0..n {
         let row1 = sheet::row(first, m1, i);
         let row2 = sheet::row(second, m2, i);
         write_row(row1, m1, row2, m2, joined, sheet::row_start(m1 + m2, i));
-        i += 1;
     }
 }
 
@@ -170,13 +152,10 @@ fn write_header(first: &[u8], m: usize, joined: &mut [u8])
     requires m_bound { m < 65536 }
     ensures { joined.new ≡ sets joined.old 0 (agents_of first.now ∷ m / 256 ∷ m % 256 ∷ take 4 (drop 3 first.now)) }
 {
+    let count = (m as u16).to_be_bytes();
     joined[0] = first[0];
-    joined[1] = (m / 256) as u8;
-    joined[2] = (m % 256) as u8;
-    joined[3] = first[3];
-    joined[4] = first[4];
-    joined[5] = first[5];
-    joined[6] = first[6];
+    joined[1..3].copy_from_slice(&count);
+    joined[3..model::HEADER_SIZE].copy_from_slice(&first[3..model::HEADER_SIZE]);
 }
 
 // The joined sheet stands at the start of the lent list, and the answer is its size.
@@ -211,9 +190,10 @@ pub fn strand_sheet<'a>(first: &'a [u8], second: &'a [u8], chore: usize) -> &'a 
     ensures { result.now ≡ strand_sheet first.now second.now chore }
 {
     if in_first(first, chore) {
-        return first;
+        first
+    } else {
+        second
     }
-    second
 }
 
 // The person's row of the sheet that holds the chore, as a part of that sheet.

@@ -1,7 +1,7 @@
 -- The four bytes of the price, written over those at its place.
 use Rattle.std.proofs.Common.{◌*◌, arith}
+use Rattle.finite.proofs.Stored.{put_over}
 use Rattle.pricebytes.specs.PriceBytes.{four_bytes}
-use Rattle.pricebytes.proofs.Writing.{put_over}
 use Rattle.pricebytes.proofs.write_price.Goals as goal
 
 pub returns : goal.returns

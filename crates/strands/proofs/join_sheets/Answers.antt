@@ -1,5 +1,5 @@
 -- `strands::join_sheets` meets its contract: nothing is written before nothing can be refused any more.
-use mathlib.Core.Path.{◌≡◌, sym, ◌∙◌}
+use mathlib.Core.Path.{◌≡◌, sym}
 use native.Mathlib.Omega.{arith}
 use lib.ListN.{length}
 use Rattle.model.specs.Refusals.{join_refusal}

@@ -7,6 +7,6 @@ pub returns-then-in_first : goal.returns-then-in_first
 unfolding strand_sheet
 returns-then-in_first c = let held = sym c.in_first.ensures ∙ c.if-in_first.true in sym (rw held)
 
-pub returns : goal.returns
+pub returns-else-in_first : goal.returns-else-in_first
 unfolding strand_sheet
-returns c = let held = sym c.in_first.ensures ∙ c.if-in_first.false in sym (rw held)
+returns-else-in_first c = let held = sym c.in_first.ensures ∙ c.if-in_first.false in sym (rw held)
