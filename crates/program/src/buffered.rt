@@ -1,5 +1,5 @@
 // Text on its way out.
-ghost use Rattle.std.specs.Prelude.{◌≡◌, ◌≤◌, OnOk};
+ghost use Rattle.std.specs.Prelude.{◌≤◌, OnOk};
 ghost use Rattle.std.specs.Io.KnownBytes.{Keeps};
 ghost use Rattle.program.specs.declared.buffered.TheConstants.{ROOM};
 
@@ -64,7 +64,7 @@ impl<W: Write> Write for Buffered<W> {
     // A write that a signal interrupts is tried again, as `write_all` does.
     fn flush(&mut self) -> io::Result<()>
         ensures bytes { Keeps (held W.contents self.old) (held W.contents self.new) }
-        ensures all { OnOk result (self.new.size ≡ 0) }
+        ensures all { OnOk result (Keeps (held W.contents self.old) (W.contents self.new.to)) }
     {
         for _ in 0..u64::MAX {
             if self.size == 0 {

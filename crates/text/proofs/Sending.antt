@@ -15,7 +15,7 @@ use Rattle.text.specs.Text.{ascii, field, spaced, newline, outputs, listed}
 use Rattle.text.specs.Lines.{list_line}
 use Rattle.text.proofs.Decimal.{decimal_is}
 
--- a word and a number after it, up to five times, and the line's end
+-- a word and a number after it, up to three times, and the line's end
 module _ (a : List ℕ) (k : ℕ) (f : k < 2 ^ 64) where
   pub one_field : field a k ++ newline ≡ a ++ (std.decimal k ++ newline)
   unfolding field
