@@ -1,5 +1,5 @@
 // The C interface: the calls on byte slices and numbers. A price takes four bytes, high byte first.
-// Each export is one call of a function with the same promise in a crate below.
+// Each export is one call of a function with the same promise in a crate below, or the number of its answer. Numbers are what C takes.
 #![tactic(auto)]
 
 ghost use Rattle.model.specs.Promises.{MeasuredList};

@@ -1,4 +1,5 @@
 // Reading a sheet: its header, its marks, and what it is turned down for. Agents and chores are counted from 0.
+// These functions serve `Sheet::read` and what it makes: before it has judged the bytes there is no `Sheet`, so they take the header's numbers beside.
 #![tactic(auto)]
 
 ghost use Rattle.std.specs.Prelude.{◌≡◌, ◌+◌, ◌*◌, ◌-◌, ◌≤◌, ◌<◌, cond, not, eqb, length, get_or};
