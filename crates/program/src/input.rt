@@ -14,9 +14,10 @@ pub fn read_whole<R: Read>(from: &mut R, buf: &mut [u8]) -> io::Result<usize>
 {
     let mut done = 0;
     while done < buf.len() {
-        match from.read(&mut buf[done..])? {
-            0 => break,
-            more => done += more,
+        match from.read(&mut buf[done..]) {
+            Ok(0) => break,
+            Ok(more) => done += more,
+            Err(error) => return Err(error),
         }
     }
     Ok(done)

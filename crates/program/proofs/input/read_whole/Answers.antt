@@ -15,6 +15,6 @@ loop-done-preserved g c =
           record {
             within = search rules;
             read =
-                subst (Consumes _ _) (take_more done room c.in_ok-more.more c.loop-done.buf c.read.new.buf taken.within c.in_ok-more.ensures.bound.0) (Consumes-trans _ _ _ _ _ taken.read c.in_ok-more.ensures.bytes.0);
+                subst (Consumes _ _) (take_more done room c.in-Ok.more c.loop-done.buf c.read.new.buf taken.within c.in-Ok.ensures.bound.0) (Consumes-trans _ _ _ _ _ taken.read c.in-Ok.ensures.bytes.0);
           };
     }
