@@ -1,5 +1,5 @@
 -- A refused sheet decides by itself.
-use Rattle.std.proofs.Common.{sym, ◌∙◌, arith}
+use Rattle.std.proofs.Common.{◌∙◌, arith}
 use Rattle.model.proofs.Refusing.{numbered}
 use Rattle.cchecks.proofs.PriceChecks.{refused_sheet}
 use Rattle.cchecks.proofs.check_prices.Goals as goal
