@@ -80,7 +80,8 @@ fn taken_off(sheet: &Sheet, owners: &[u8], i: usize, slack: u8) -> u32
     count * a + difficult * (b - a)
 }
 
-// The first agent that agent i envies.
+// The first agent that agent i envies. Not inlined: its sums leave the stack before waste is looked for.
+#[inline(never)]
 pub fn first_envied(sheet: &Sheet, owners: &[u8], i: usize, slack: u8) -> Option<usize>
     requires given { Given sheet.now owners.now }
     requires i_bound { i < agents_of sheet.now }
