@@ -1,4 +1,5 @@
 pub mod Decimal
+pub mod Putting
 pub mod Sending
 pub mod Moving
 pub mod Sample

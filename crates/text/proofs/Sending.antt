@@ -13,22 +13,22 @@ use Rattle.std.specs.Io.KnownBytes.{Appends}
 use Rattle.std.proofs.KnownBytes.{Appends-nil, Appends-trans}
 use Rattle.text.specs.Text.{ascii, field, spaced, newline, outputs, listed}
 use Rattle.text.specs.Lines.{list_line}
-use Rattle.text.proofs.Decimal.{decimal_is}
+use Rattle.text.proofs.Decimal.{decimal_shown}
 
 -- a word and a number after it, up to three times, and the line's end
 module _ (a : List ℕ) (k : ℕ) (f : k < 2 ^ 64) where
   pub one_field : field a k ++ newline ≡ a ++ (std.decimal k ++ newline)
   unfolding field
-  one_field = rw (decimal_is k f) (simp append_assoc)
+  one_field = rw (decimal_shown k f) (simp append_assoc)
 
   module _ (b : List ℕ) (m : ℕ) (g : m < 2 ^ 64) where
     pub two_fields : field a k ++ field b m ++ newline ≡ a ++ (std.decimal k ++ (b ++ (std.decimal m ++ newline)))
     unfolding field
-    two_fields = rw (decimal_is k f, decimal_is m g) (simp append_assoc)
+    two_fields = rw (decimal_shown k f, decimal_shown m g) (simp append_assoc)
 
     pub three_fields : (c : List ℕ) (n : ℕ) → n < 2 ^ 64 → field a k ++ field b m ++ field c n ++ newline ≡ a ++ (std.decimal k ++ (b ++ (std.decimal m ++ (c ++ (std.decimal n ++ newline)))))
     unfolding field
-    three_fields c n h = rw (decimal_is k f, decimal_is m g, decimal_is n h) (simp append_assoc)
+    three_fields c n h = rw (decimal_shown k f, decimal_shown m g, decimal_shown n h) (simp append_assoc)
 
 -- one text after the other, where both are known
 sent_then : (a b c : Option (List ℕ)) (o p : Option (List ℕ)) → IfSome o (Appends a b) → IfSome p (Appends b c) → IfSome (o ++? p) (Appends a c)
@@ -72,7 +72,7 @@ module _ {T : Type 0} (output : T → Option (List ℕ)) where
 numbers_shown : (xs : List ℕ) → ((k : ℕ) → get_or xs k 0 < 2 ^ 64) → outputs (λ n. Some (std.decimal n)) xs ≡ Some (spaced xs)
 unfolding outputs spaced field
 numbers_shown [] f = refl
-numbers_shown (x ∷ xs) f = rw (decimal_is x (f 0), numbers_shown xs (λ k. f (suc k)))
+numbers_shown (x ∷ xs) f = rw (decimal_shown x (f 0), numbers_shown xs (λ k. f (suc k)))
 
 pub list_shown : (word xs : List ℕ) → ((k : ℕ) → get_or xs k 0 < 2 ^ 64) → listed (λ n. Some (std.decimal n)) word xs ≡ Some (list_line word xs)
 unfolding listed list_line

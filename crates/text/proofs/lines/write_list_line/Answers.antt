@@ -1,6 +1,6 @@
 use Rattle.std.proofs.lemmas.Result.{on_ok_weaker}
 use Rattle.text.proofs.Sending.{list_begin, list_next, list_end}
-use Rattle.text.proofs.lines.list_line.Goals as goal
+use Rattle.text.proofs.lines.write_list_line.Goals as goal
 
 pub loop-number-init : goal.loop-number-init
 loop-number-init g c = list_begin _ c.args.numbers.now _

@@ -2,7 +2,7 @@
 use Rattle.std.proofs.Common.{take, IfSome}
 use Rattle.std.specs.Io.KnownBytes.{Appends}
 use Rattle.text.specs.Text.{outputs}
-use Rattle.text.proofs.lines.list_line.Given as goal
+use Rattle.text.proofs.lines.write_list_line.Given as goal
 
 abbrev pub invariant-loop-number : goal.invariant-loop-number
 invariant-loop-number g l =
