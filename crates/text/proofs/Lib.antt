@@ -1,4 +1,5 @@
 pub mod Decimal
+pub mod Parts
 pub mod Putting
 pub mod Sending
 pub mod Moving

@@ -1,15 +1,14 @@
 // The lines that the programs print, in a lent buffer and to a writer. In a buffer a line can't fail, and the number in its contract is the most
 // that it takes. To a writer it can, and its contract holds of one whose bytes are known. So both stand; the programs print by the second.
-ghost use Rattle.std.specs.Prelude.{◌+◌, ◌*◌, ◌≤◌, length, OnOk, IfSome};
+ghost use Rattle.std.specs.Prelude.{◌+◌, ◌*◌, ◌≤◌, length, OnOk};
 ghost use Rattle.std.specs.Io.KnownBytes.{Appends};
 ghost use Rattle.model.specs.RefusalNumbers.{refusal_number};
-ghost use Rattle.text.specs.Text.{listed};
+ghost use Rattle.text.specs.Text.{spaced};
 ghost use Rattle.text.specs.Lines.{sheet_line, list_line, owners_line, prices_line, opening_line, refused_line, book_refused_line, total_line};
 ghost use Rattle.text.specs.Put.{Put};
 
 use crate::words;
 use model::Refusal;
-use std::fmt::Display;
 use std::io;
 use std::io::Write;
 
@@ -88,33 +87,64 @@ pub fn write_sheet_line<W: Write>(number: u64, moves: u64, cuts: u64, to: &mut W
     writeln!(to, "sheet {number} moves {moves} cuts {cuts}")
 }
 
-// A word, and a number for each chore, each after a space.
-fn write_list_line<W: Write, T: Display>(word: &str, numbers: &[T], to: &mut W) -> io::Result<()>
-    ensures { OnOk result (IfSome (listed T.output word.now numbers.now) (Appends (W.contents to.old) (W.contents to.new))) }
+// So many numbers go to a writer at once, out of a buffer: one by one, each through `Display`, they were measured slower.
+const PART: usize = 64;
+
+// A number for each chore, each after a space.
+fn write_agents<W: Write>(agents: &[u8], to: &mut W) -> io::Result<()>
+    ensures { OnOk result (Appends (W.contents to.old) (W.contents to.new) (spaced agents.now)) }
 {
-    write!(to, "{word}")?;
-    for number in numbers {
-        write!(to, " {number}")?;
+    let mut room = [0; 4 * PART + 20];
+    let mut rest = agents;
+    while !rest.is_empty() {
+        let (part, more) = rest.split_at(rest.len().min(PART));
+        let end = words::spaced_u8(part, &mut room, 0);
+        to.write_all(&room[..end])?;
+        rest = more;
     }
-    writeln!(to)
+    Ok(())
+}
+
+fn write_prices<W: Write>(prices: &[u32], to: &mut W) -> io::Result<()>
+    ensures { OnOk result (Appends (W.contents to.old) (W.contents to.new) (spaced prices.now)) }
+{
+    let mut room = [0; 11 * PART + 20];
+    let mut rest = prices;
+    while !rest.is_empty() {
+        let (part, more) = rest.split_at(rest.len().min(PART));
+        let end = words::spaced_u32(part, &mut room, 0);
+        to.write_all(&room[..end])?;
+        rest = more;
+    }
+    Ok(())
+}
+
+fn write_agents_line<W: Write>(word: &[u8], agents: &[u8], to: &mut W) -> io::Result<()>
+    ensures { OnOk result (Appends (W.contents to.old) (W.contents to.new) (list_line word.now agents.now)) }
+{
+    to.write_all(word)?;
+    write_agents(agents, to)?;
+    to.write_all(b"\n")
 }
 
 pub fn write_owners_line<W: Write>(owners: &[u8], to: &mut W) -> io::Result<()>
     ensures { OnOk result (Appends (W.contents to.old) (W.contents to.new) (owners_line owners.now)) }
 {
-    write_list_line("owners", owners, to)
+    write_agents_line(b"owners", owners, to)
 }
 
 pub fn write_opening_line<W: Write>(owners: &[u8], to: &mut W) -> io::Result<()>
     ensures { OnOk result (Appends (W.contents to.old) (W.contents to.new) (opening_line owners.now)) }
 {
-    write_list_line("opening", owners, to)
+    write_agents_line(b"opening", owners, to)
 }
 
 pub fn write_prices_line<W: Write>(prices: &[u32], to: &mut W) -> io::Result<()>
     ensures { OnOk result (Appends (W.contents to.old) (W.contents to.new) (prices_line prices.now)) }
 {
-    write_list_line("prices", prices, to)
+    to.write_all(b"prices")?;
+    write_prices(prices, to)?;
+    to.write_all(b"\n")
 }
 
 pub fn write_refused_line<W: Write>(number: u64, refusal: Refusal, to: &mut W) -> io::Result<()>

@@ -1,8 +1,8 @@
-use Rattle.std.proofs.Common.{arith}
+use Rattle.std.proofs.lemmas.Result.{on_ok_weaker}
 use Rattle.text.specs.Lines.{prices_line}
-use Rattle.text.proofs.Sending.{list_shown}
+use Rattle.text.proofs.Parts.{line_gone}
 use Rattle.text.proofs.lines.write_prices_line.Goals as goal
 
 pub returns : goal.returns
 unfolding prices_line
-returns g c = rw (list_shown _ c.args.prices.now (λ k. omega (arith, c.type_inv.prices k))) at c.write_list_line.ensures
+returns g c = on_ok_weaker _ (line_gone _ _ _ _ _ _ c.in_ok-write_all.ensures.bytes c.in_ok-write_prices.ensures) c.write_all-2.ensures.bytes
