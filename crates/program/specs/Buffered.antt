@@ -7,7 +7,7 @@ use Rattle.program.specs.declared.buffered.Buffered.{Buffered}
 abbrev pub handed_on : {W : Type 0} → (W → Option (List ℕ)) → Buffered W → Option (List ℕ)
 handed_on contents b = contents b.to
 
--- and then those that it is not handed yet
+-- the bytes that the writer holds, and then those that it is not handed yet
 abbrev pub held : {W : Type 0} → (W → Option (List ℕ)) → Buffered W → Option (List ℕ)
 held contents b = append_known (handed_on contents b) (take b.size b.bytes)
 
