@@ -35,7 +35,7 @@ fn wanting(likes: u32, entitled: u8, view: View) -> u32
 }
 
 // A chore's traits as the bits of a word.
-fn traits(price: u32, entitled: u8, likes: u32, view: View) -> u64
+pub fn traits(price: u32, entitled: u8, likes: u32, view: View) -> u64
     ensures { SetOf trait_count result (trait_in price (eqb entitled 1) likes view.free view.grouped view.mid view.top) }
 {
     let mut word = wanting(likes, entitled, view) as u64;

@@ -31,7 +31,7 @@ module _ {s owners owners' : List ℕ} (I : Improving s owners owners') where
     unfolding as_marked
     replaced_given = picks_given I.given.valid (allocation_picks (as_marked s) _ d.allocation)
 
-    replaced_none_more : (i : ℕ) → i < agents_of s → cost_to (as_marked s) (owner_of (take (chores_of s) spare)) i i ≤ cost_to (as_marked s) (owner_of owners) i i
+    pub replaced_none_more : (i : ℕ) → i < agents_of s → cost_to (as_marked s) (owner_of (take (chores_of s) spare)) i i ≤ cost_to (as_marked s) (owner_of owners) i i
     unfolding as_marked
     replaced_none_more i l = le_trans (better.none_more i l) (I.none_more i l)
 

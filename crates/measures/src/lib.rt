@@ -31,10 +31,10 @@ fn deal_level(
 {
     let mut left = count;
     for cost in &mut costs[..n] {
-        if left == 0 {
-            break;
-        }
         if *cost == least {
+            if left == 0 {
+                break;
+            }
             *cost += weight;
             left -= 1;
         }

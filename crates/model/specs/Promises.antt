@@ -1,5 +1,5 @@
 -- What each public call promises, refused or not. In each record plain names are the lists as handed in, and primed ones the same memory when
--- the call returns. `sheet_refusal` promises `r ≡ sheet_refusal sheet`, and the price check, which lends nothing, `PricesChecked`.
+-- the call returns. `admit_sheet` promises `number_of r ≡ sheet_refusal sheet`, and the price check, which lends nothing, `PricesChecked`.
 use Rattle.std.specs.Prelude.{ℕ, ◌≤◌, ◌<◌, ◌+◌, ◌-◌, ◌*◌, true, false, cond, List, [], ◌++◌, Result, Ok, Err, ◌≡◌, eqb, length, get_or, take, drop, replicate}
 use Rattle.model.specs.declared.Refusal.{Refusal}
 use Rattle.model.specs.declared.ShareOut.{ShareOut}
@@ -188,7 +188,7 @@ unfoldable pub measures_over : List ℕ → List ℕ → List ℕ
 measures_over s before = cond (eqb (measures_refusal s) 0) (measures_of s ++ drop (agents_of s) before) before
 
 -- Everyone's own measure: `measures(sheet)`, which "writes nothing that is lent", answers a list that held zeros before. For C it is one that is
--- lent: `measures_over(sheet, before)`.
+-- lent: `measures_over(sheet, numbers)`.
 pub record Measured (s before : List ℕ) (refusal : ℕ) (after : List ℕ) : Type 0 where
   pub answer : refusal ≡ measures_refusal s
   pub numbers : after ≡ measures_over s before

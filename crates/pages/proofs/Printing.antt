@@ -7,7 +7,9 @@ use native.Mathlib.Nat.{le_of_lt, le_refl}
 use native.Mathlib.Numerals.{add-one}
 use native.Mathlib.Omega.{arith}
 use lib.Dec.{eqb}
+use lib.ListN.{length}
 use borrow.Author.Tests.{eq-eqb, ne_eqb, eqb-true}
+use Rattle.io.proofs.Counting.{prefix_len_of_le}
 use Rattle.finite.proofs.Tests.{cond-le}
 use Rattle.finite.proofs.Below.{by_same}
 use Rattle.finite.proofs.Sums.{sum_zero, sum_next, sum_at_most}
@@ -28,11 +30,16 @@ use Rattle.allocation.specs.Final.{final_of}
 use Rattle.allocation.proofs.Final.{few_moves, few_cuts}
 use Rattle.tally.specs.Counting.{moves_added, cuts_added, Fitting, Counted}
 use Rattle.text.specs.Text.{joined}
+use Rattle.text.specs.Put.{Put}
 use Rattle.text.specs.Lines.{book_refused_line, total_line}
 use Rattle.pages.specs.Printer.{Printer, Unbroken, to_print, last_text, text_of, adds_of, sheet_text, tally_to, last_of, book_text}
-use Rattle.pages.specs.Printing.{SheetShown, Passed}
+use Rattle.pages.specs.Printing.{Shows, SheetShown, Passed}
 use Rattle.pages.specs.Answered.{Answered}
 use Rattle.pages.proofs.Answering.{adds_moves, adds_cuts}
+
+-- a text put into a buffer that has room for it
+pub shown : {text out out' : List ℕ} {most r : ℕ} → Put most text out 0 out' r → most ≤ length out' → Shows text out' r
+shown T room = record { counts = prefix_len_of_le _ _ (omega (arith, T.few)); made = T.made }
 
 module _ (book : List ℕ) where
   module _ (z : contents_refusal book ≡ 0) where

@@ -1,11 +1,11 @@
 // A book printed sheet by sheet: what the programs have in common, whatever they print of a sheet.
 #![tactic(auto)]
 
-ghost use Rattle.std.specs.Prelude.{◌≡◌, IfOk, OnOk};
+ghost use Rattle.std.specs.Prelude.{◌≤◌, ◌≡◌, length, IfOk, OnOk};
 ghost use Rattle.std.specs.Io.KnownBytes.{Appends};
 ghost use Rattle.contents.specs.Fits.{SheetInBook};
 ghost use Rattle.pages.specs.Printer.{Printer, Unbroken, to_print, last_text, book_text};
-ghost use Rattle.pages.specs.Printing.{SheetShown};
+ghost use Rattle.pages.specs.Printing.{last_most, Shows, SheetShown};
 
 use model::{Refusal, ShareOut, Tally};
 use std::io;
@@ -29,7 +29,7 @@ pub trait SheetPrinter {
 }
 
 // How many sheets there are to print: none of a refused book.
-fn sheets(book: &[u8]) -> usize
+pub fn sheets(book: &[u8]) -> usize
     ensures { result ≡ to_print book.now }
 {
     match contents::admit_book(book) {
@@ -38,13 +38,24 @@ fn sheets(book: &[u8]) -> usize
     }
 }
 
-// What is printed last, after the sheets, or of a refused book alone.
-fn last_text<W: Write>(book: &[u8], total: Tally, to: &mut W) -> io::Result<()>
+// What is printed last, after the sheets, or of a refused book alone. In a lent buffer it can't fail.
+pub fn last_text(book: &[u8], total: Tally, out: &mut [u8]) -> usize
+    requires { last_most ≤ length out.old }
+    ensures { Shows (last_text book.now total.moves total.cuts) out.new result }
+{
+    match contents::admit_book(book) {
+        Ok(()) => lines::total_line(total.moves, total.cuts, out, 0),
+        Err(refusal) => lines::book_refused_line(u8::from(refusal) as u64, out, 0),
+    }
+}
+
+// To a writer it can.
+fn write_last_text<W: Write>(book: &[u8], total: Tally, to: &mut W) -> io::Result<()>
     ensures { OnOk result (Appends (W.contents to.old) (W.contents to.new) (last_text book.now total.moves total.cuts)) }
 {
     match contents::admit_book(book) {
-        Ok(()) => lines::total_line(total.moves, total.cuts, to),
-        Err(refusal) => lines::book_refused_line(refusal, to),
+        Ok(()) => lines::write_total_line(total.moves, total.cuts, to),
+        Err(refusal) => lines::write_book_refused_line(refusal, to),
     }
 }
 
@@ -58,6 +69,6 @@ pub fn print_book<P: SheetPrinter, W: Write>(book: &[u8], to: &mut W) -> io::Res
         to.flush()?;
         total = tally::tallied(total, answer);
     }
-    last_text(book, total, to)?;
+    write_last_text(book, total, to)?;
     to.flush()
 }

@@ -7,6 +7,7 @@ use native.Mathlib.Numerals.{add-one}
 use native.Mathlib.Omega.{arith}
 use lib.ListN.{length, get_or, take, drop, length-append, length-drop}
 use lib.Seq.{sets, sets-eq, take-suc, take_at, drop_at, drop-append-add, drop-drop, length-take-le}
+use Rattle.std.proofs.lemmas.List.{length-take, get_or-take}
 use Rattle.pricebytes.specs.PriceBytes.{four_bytes, bytes_of, with_prices}
 
 pub bytes-length : (ps : List ℕ) → length (bytes_of ps) ≡ 4 * length ps
@@ -52,3 +53,10 @@ module _ (ps bytes : List ℕ) where
       let more : bytes_of (take (c + 1) ps) ≡ before ++ four_bytes (get_or ps c 0) = rw (add-one c, take-suc ps c 0 l, bytes-append, bytes_one) in
       sets-eq (four_bytes (get_or ps c 0)) (before ++ rest) (4 * c) (simp (length-append, length-drop) (omega arith))
       ∙ rw (take_at before rest (4 * c) long, kept, more, append_assoc)
+
+-- the next of the first n prices, written over what the ones before it left
+pub next_written : (n : ℕ) (ps bytes : List ℕ) {c : ℕ} {before after : List ℕ} → after ≡ sets before (4 * c) (four_bytes (get_or (take n ps) c 0)) → before ≡ with_prices c ps bytes → 4 * n ≤ length bytes → c < length (take n ps) → after ≡ with_prices (c + 1) ps bytes
+next_written n ps bytes {c} written earlier fits l =
+    let below : c < n = omega (arith, length-take n ps) in
+    let inside : c < length ps = omega (arith, length-take n ps) in
+    written ∙ rw (get_or-take n ps c 0 below, earlier) (with_next ps bytes inside (omega arith))

@@ -47,7 +47,7 @@ impl<W: Write> Buffered<W> {
 }
 
 impl<W: Write> Write for Buffered<W> {
-    ghost use Rattle.program.specs.Buffered.{held};
+    ghost use Rattle.program.specs.Buffered.{handed_on, held};
 
     ghost contents = { held W.contents };
 
@@ -64,7 +64,7 @@ impl<W: Write> Write for Buffered<W> {
     // A write that a signal interrupts is tried again, as `write_all` does.
     fn flush(&mut self) -> io::Result<()>
         ensures bytes { Keeps (held W.contents self.old) (held W.contents self.new) }
-        ensures all { OnOk result (Keeps (held W.contents self.old) (W.contents self.new.to)) }
+        ensures all { OnOk result (Keeps (held W.contents self.old) (handed_on W.contents self.new)) }
     {
         for _ in 0..u64::MAX {
             if self.size == 0 {

@@ -27,6 +27,6 @@ pub fn run<R: Read, W: Write, E: Write, F: FnOnce(&[u8], &mut W) -> io::Result<(
                 output::fail(name, "write error", &error, errors);
             }
         }
-        Err(error) => output::fail(name, "read error", &error, errors),
+        Err(stopped) => output::fail(name, "read error", &stopped.error, errors),
     }
 }

@@ -4,7 +4,7 @@
 mod page;
 
 ghost use Rattle.std.specs.Prelude.{List, ℕ, OnOk};
-ghost use Rattle.std.specs.Io.KnownBytes.{Appends};
+ghost use Rattle.program.specs.Buffered.{HandsOn};
 ghost use Rattle.shares.specs.Page.{Printed};
 
 use page::Shares;
@@ -16,14 +16,16 @@ use std::io::Write;
 const USAGE: &[u8] =
     b"usage: shares < BOOK\nShares out every sheet of the book on standard input. See shares(1).\n";
 
-fn print_book<W: Write>(book: &[u8], to: &mut W) -> io::Result<()>
-    ensures { OnOk result ((text : List ℕ) × Printed book.now text × Appends (W.contents to.old) (W.contents to.new) text) }
+// What is printed is handed on to the writer, whole.
+fn print_book<W: Write>(book: &[u8], to: &mut Buffered<W>) -> io::Result<()>
+    ensures { OnOk result ((text : List ℕ) × Printed book.now text × HandsOn W.contents to.old to.new text) }
 {
-    pages::print_book::<Shares, W>(book, to)
+    pages::print_book::<Shares, Buffered<W>>(book, to)?;
+    to.flush()
 }
 
 fn main(rt: HostRuntime) {
-    let mut out = Buffered::new(rt.stdout());
+    let mut out = rt.stdout();
     let mut errors = rt.stderr();
     if arguments::to_run(
         &rt,
@@ -33,6 +35,7 @@ fn main(rt: HostRuntime) {
         &mut out,
         &mut errors,
     ) {
+        let mut out = Buffered::new(out);
         program::run("shares", print_book, &mut rt.stdin(), &mut out, &mut errors);
     }
 }

@@ -22,9 +22,9 @@ fn shared_lines<W: Write>(
 ) -> io::Result<()>
     ensures { OnOk result (Appends (W.contents to.old) (W.contents to.new) (shared_lines number out.moves out.cuts owners.now prices.now)) }
 {
-    lines::sheet_line(number, out.moves, out.cuts as u64, to)?;
-    lines::owners_line(owners, to)?;
-    lines::prices_line(prices, to)
+    lines::write_sheet_line(number, out.moves, out.cuts as u64, to)?;
+    lines::write_owners_line(owners, to)?;
+    lines::write_prices_line(prices, to)
 }
 
 // An accepted sheet's entries stand first in the lists.
@@ -44,7 +44,7 @@ fn answer_text<W: Write>(
             let m = sheet::chores(sheet);
             shared_lines(number, out, &owners[..m], &prices[..m], to)
         }
-        Err(refusal) => lines::refused_line(number, refusal, to),
+        Err(refusal) => lines::write_refused_line(number, refusal, to),
     }
 }
 

@@ -49,10 +49,10 @@ peel t k b e =
     let both = or_else_zero (suc k when t) b e in
     (when_none t k both.0, both.1)
 
--- code's answer r stands for the first refusal: it is returned where it is not 0
+-- r is the first number, of an answer of the code: where it is not 0, it is the number of both
 pub or_else_stop : {a r : ℕ} (b : ℕ) → r ≡ a → (r ≡ 0 → ⊥) → r ≡ a or_else b
 or_else_stop {a} {r} b e h = e ∙ sym (or_else_first b (λ z. h (e ∙ z)))
 
--- code's answers r and q stand for both refusals: q is returned where r is 0
+-- r and q are the numbers of two answers of the code: where r is 0, q is the number of both
 pub or_else_go : {a b r q : ℕ} → r ≡ a → r ≡ 0 → q ≡ b → q ≡ a or_else b
 or_else_go {a} {b} e z k = k ∙ sym (or_else_next b (sym e ∙ z))

@@ -1,5 +1,6 @@
 // Reading a sheet: its header, its marks, and what it is turned down for. Agents and chores are counted from 0.
-// These functions serve `Sheet::read` and what it makes: before it has judged the bytes there is no `Sheet`, so they take the header's numbers beside.
+// All of it is read off the bytes, with the header's numbers beside: `Sheet::read` judges them so, before there is a `Sheet`, and the methods of one
+// answer by the readers of a row and its marks, which also stand for those who have the bytes of a sheet alone.
 #![tactic(auto)]
 
 ghost use Rattle.std.specs.Prelude.{◌≡◌, ◌+◌, ◌*◌, ◌-◌, ◌≤◌, ◌<◌, cond, not, eqb, length, get_or};
@@ -89,7 +90,7 @@ pub fn row(sheet: &[u8], m: usize, i: usize) -> &[u8]
 }
 
 // Byte k of agent i's row.
-fn row_byte(sheet: &[u8], m: usize, i: usize, k: usize) -> u8
+pub fn row_byte(sheet: &[u8], m: usize, i: usize, k: usize) -> u8
     requires row_in_sheet { RowInSheet sheet.now m i }
     requires k_bound { k < bytes_for m }
     ensures { Read (get_or (row_of sheet.now i) k 0) 256 result }
@@ -106,14 +107,14 @@ pub fn mark_in(byte: u8, j: usize) -> u8
 }
 
 // Agent i's mark for chore c. The caller passes the number of chores, since a search asks for many marks of one sheet.
-fn mark_at(sheet: &[u8], m: usize, i: usize, c: usize) -> u8
+pub fn mark_at(sheet: &[u8], m: usize, i: usize, c: usize) -> u8
     requires { InSheet sheet.now m i c }
     ensures { result ≡ cond (is_difficult sheet.now i c) 1 0 }
 {
     mark_in(row_byte(sheet, m, i, c / 8), c % 8)
 }
 
-fn marks_easy(sheet: &[u8], m: usize, i: usize, c: usize) -> bool
+pub fn marks_easy(sheet: &[u8], m: usize, i: usize, c: usize) -> bool
     requires { InSheet sheet.now m i c }
     ensures { result ≡ marks_easy sheet.now i c }
 {
@@ -122,7 +123,7 @@ fn marks_easy(sheet: &[u8], m: usize, i: usize, c: usize) -> bool
 
 // Document 02, request 5: "The number of difficult marks in a row is told from its count of ones", over each byte. The bits after the last
 // mark are 0.
-fn difficult_marks(sheet: &[u8], m: usize, i: usize) -> usize
+pub fn difficult_marks(sheet: &[u8], m: usize, i: usize) -> usize
     requires { RowInSheet sheet.now m i }
     ensures { result ≡ difficult_marks sheet.now i }
 {
@@ -134,7 +135,7 @@ fn difficult_marks(sheet: &[u8], m: usize, i: usize) -> usize
 }
 
 // Whether agent i marked every chore difficult.
-fn all_difficult(sheet: &[u8], m: usize, i: usize) -> bool
+pub fn all_difficult(sheet: &[u8], m: usize, i: usize) -> bool
     requires { RowInSheet sheet.now m i }
     ensures { result ≡ all_difficult sheet.now i }
 {

@@ -1,4 +1,6 @@
 pub mod Decimal
+pub mod Parts
+pub mod Putting
 pub mod Sending
 pub mod Moving
 pub mod Sample

@@ -1,6 +1,5 @@
 -- Text as bytes: words, and numbers in decimal.
-use Rattle.std.specs.Prelude.{ℕ, zero, suc, ◌+◌, ◌/◌, ◌%◌, cond, List, [], ◌∷◌, ◌++◌, ltb, Option, Some}
-use Rattle.std.specs.Fmt.{◌++?◌}
+use Rattle.std.specs.Prelude.{ℕ, zero, suc, ◌+◌, ◌/◌, ◌%◌, cond, List, [], ◌∷◌, ◌++◌, ltb}
 use Prim.Native.Char.{code}
 use Prim.Native.String as S
 use Prim.Native.String.{String}
@@ -29,15 +28,6 @@ spaced (x ∷ xs) = field (ascii " ") x ++ spaced xs
 
 abbrev pub newline : List ℕ
 newline = 10 ∷ []
-
--- a word with a list of anything that has a text after it, each after a space, and a line end
-module _ {T : Type 0} (output : T → Option (List ℕ)) where
-  unfoldable pub outputs : List T → Option (List ℕ)
-  outputs [] = Some []
-  outputs (x ∷ xs) = Some (ascii " ") ++? output x ++? outputs xs
-
-  unfoldable pub listed : List ℕ → List T → Option (List ℕ)
-  listed word xs = Some word ++? outputs xs ++? Some newline
 
 -- the first j of some texts, one after the other
 unfoldable pub joined : (ℕ → List ℕ) → ℕ → List ℕ

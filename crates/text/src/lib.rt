@@ -1,5 +1,7 @@
-// The text of the programs: the lines that they print, each to a writer that is handed in.
+// The text of the programs: words and numbers, and the lines made of them. In a lent buffer they can't fail; to a writer, as the programs print them,
+// they can.
 #![tactic(auto)]
 
 pub mod lines;
 pub mod moves;
+pub mod words;

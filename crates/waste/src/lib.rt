@@ -2,7 +2,7 @@
 #![tactic(auto)]
 
 mod connected;
-mod walk;
+pub mod walk;
 
 ghost use Rattle.std.specs.Prelude.{◌≤◌, length};
 ghost use Rattle.model.specs.Sheet.{chores_of};

@@ -5,7 +5,7 @@ mod page;
 mod told;
 
 ghost use Rattle.std.specs.Prelude.{List, ℕ, OnOk};
-ghost use Rattle.std.specs.Io.KnownBytes.{Appends};
+ghost use Rattle.program.specs.Buffered.{HandsOn};
 ghost use Rattle.why.specs.Page.{Printed};
 
 use page::Why;
@@ -17,16 +17,19 @@ use std::io::Write;
 const USAGE: &[u8] =
     b"usage: why < BOOK\nShows every move of the share-outs of the book on standard input. See why(1).\n";
 
-fn print_book<W: Write>(book: &[u8], to: &mut W) -> io::Result<()>
-    ensures { OnOk result ((text : List ℕ) × Printed book.now text × Appends (W.contents to.old) (W.contents to.new) text) }
+// What is printed is handed on to the writer, whole.
+fn print_book<W: Write>(book: &[u8], to: &mut Buffered<W>) -> io::Result<()>
+    ensures { OnOk result ((text : List ℕ) × Printed book.now text × HandsOn W.contents to.old to.new text) }
 {
-    pages::print_book::<Why, W>(book, to)
+    pages::print_book::<Why, Buffered<W>>(book, to)?;
+    to.flush()
 }
 
 fn main(rt: HostRuntime) {
-    let mut out = Buffered::new(rt.stdout());
+    let mut out = rt.stdout();
     let mut errors = rt.stderr();
     if arguments::to_run(&rt, "why", USAGE, b"why 6.2.15\n", &mut out, &mut errors) {
+        let mut out = Buffered::new(out);
         program::run("why", print_book, &mut rt.stdin(), &mut out, &mut errors);
     }
 }

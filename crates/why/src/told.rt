@@ -37,11 +37,11 @@ fn run_lines<W: Write>(
 ) -> io::Result<()>
     ensures { OnOk result ((moves : List Move) → bytes.now ≡ record_of moves → Appends (W.contents to.old) (W.contents to.new) (run_lines number out.moves out.cuts opened.now moves owners.now prices.now)) }
 {
-    lines::sheet_line(number, out.moves, out.cuts as u64, to)?;
-    lines::opening_line(opened, to)?;
-    moves::moves_text(bytes, to)?;
-    lines::owners_line(owners, to)?;
-    lines::prices_line(prices, to)
+    lines::write_sheet_line(number, out.moves, out.cuts as u64, to)?;
+    lines::write_opening_line(opened, to)?;
+    moves::write_moves(bytes, to)?;
+    lines::write_owners_line(owners, to)?;
+    lines::write_prices_line(prices, to)
 }
 
 // An accepted sheet: its entries stand first in the lists, and its moves in the record.
@@ -92,6 +92,6 @@ pub fn answer_text<W: Write>(
             let sheet = Sheet::read(sheet).unwrap();
             shared_text(&sheet, number, out, owners, prices, bytes, to)
         }
-        Err(refusal) => lines::refused_line(number, refusal, to),
+        Err(refusal) => lines::write_refused_line(number, refusal, to),
     }
 }

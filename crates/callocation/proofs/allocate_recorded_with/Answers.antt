@@ -1,4 +1,4 @@
--- `callocation::allocate_recorded` meets its contract, as `allocate_with` does.
+-- `callocation::allocate_recorded_with` meets its contract, as `allocate_with` does.
 use native.Mathlib.Omega.{arith}
 use borrow.Author.Rules.{rules}
 use Rattle.callocation.proofs.Lending.{first_lent}

@@ -7,7 +7,7 @@ use Rattle.std.proofs.lemmas.List.{take-append-drop, length-take-le, get_or_appe
 use Rattle.measures.specs.Dealing.{added_to}
 use Rattle.measures.proofs.Dealing.{passed_none, passed_small, passed_on, passed_dealt, passed_all}
 use Rattle.measures.proofs.deal_level.Goals as goal
-use Rattle.measures.proofs.deal_level.Goals.{else-cost-least, then-cost-least, At-loop-cost}
+use Rattle.measures.proofs.deal_level.Goals.{else-cost-least, then-cost-least+else-left-eq0, At-loop-cost}
 
 -- the bundles are the first n entries of the list
 bundles : (c : At-loop-cost) → length (take c.args.n c.args.costs.now) ≡ c.args.n
@@ -33,7 +33,7 @@ loop-cost-preserved c =
     let inside : loop.cost-index < length loop.cost-items = omega arith in
     let same = get_or_append_left loop.cost-items _ 0 loop.cost-index inside in
     elim c.if-cost-least.branch [
-      | then-cost-least w ↦ rw (w.cost-items-is, w.left-is, ← set-append_left loop.cost-items _ loop.cost-index _ inside, ← same) (passed_dealt c.requires.dealing loop.invariant more (same ∙ w.if-cost-least.true) (omega arith))
+      | then-cost-least+else-left-eq0 w ↦ rw (w.cost-items-is, w.left-is, ← set-append_left loop.cost-items _ loop.cost-index _ inside, ← same) (passed_dealt c.requires.dealing loop.invariant more (same ∙ w.if-cost-least.true) (omega arith))
       | else-cost-least w ↦ rw (w.cost-items-is, w.left-is, set-get_or loop.cost-items loop.cost-index 0) (passed_on c.requires.dealing loop.invariant more (rw same w.if-cost-least.false))
     ]
 

@@ -23,4 +23,4 @@ loop-j-preserved g c =
     onward _ _ inside c.loop-j.invariant c.in_ok-answer.ensures _ c.flush.ensures.bytes c.tallied-total.ensures
 
 pub returns : goal.returns
-returns g c = end _ _ _ _ _ _ c.flush-2.result c.loop-j.invariant (omega arith) c.in_ok-last_text.ensures c.flush-2.ensures.bytes
+returns g c = end _ _ _ _ _ _ c.flush-2.result c.loop-j.invariant (omega arith) c.in_ok-write_last_text.ensures c.flush-2.ensures.bytes

@@ -1,6 +1,6 @@
-use Rattle.std.proofs.lemmas.Result.{on_ok_weaker}
+use Rattle.std.proofs.Common.{rules}
 use Rattle.shares.proofs.Printing.{sent}
 use Rattle.shares.proofs.print_book.Goals as goal
 
 pub returns : goal.returns
-returns g c = on_ok_weaker _ (sent c.args.book.now _ _) c.print_book.ensures
+returns g c = search (rules, sent)

@@ -7,4 +7,4 @@ pub returns-in-Ok : goal.returns-in-Ok
 returns-in-Ok g c = rw (left_text (c.requires.shared_out _ c.in-Ok.is) c.chores-m.ensures.is c.args.number) c.shared_lines.ensures
 
 pub returns-in-Err : goal.returns-in-Err
-returns-in-Err g c = rw (refused_text _ _ c.args.number (c.requires.turned_down _ c.in-Err.is)) c.refused_line.ensures
+returns-in-Err g c = rw (refused_text _ _ c.args.number (c.requires.turned_down _ c.in-Err.is)) c.write_refused_line.ensures

@@ -6,4 +6,4 @@ use Rattle.shares.proofs.page.shared_lines.Goals as goal
 
 pub returns : goal.returns
 unfolding shared_lines
-returns g c = on_ok_weaker _ (Appends-trans _ _ _ _ _ (Appends-trans _ _ _ _ _ c.in_ok-sheet_line.ensures c.in_ok-owners_line.ensures)) c.prices_line.ensures
+returns g c = on_ok_weaker _ (Appends-trans _ _ _ _ _ (Appends-trans _ _ _ _ _ c.in_ok-write_sheet_line.ensures c.in_ok-write_owners_line.ensures)) c.write_prices_line.ensures

@@ -1,9 +1,8 @@
-use Rattle.std.proofs.Common.{arith}
-use Rattle.text.specs.Text.{ascii}
+-- The line's parts, one after the other.
 use Rattle.text.specs.Lines.{book_refused_line}
-use Rattle.text.proofs.Sending.{one_field}
+use Rattle.text.proofs.Putting.{put_then, any_field}
 use Rattle.text.proofs.lines.book_refused_line.Goals as goal
 
 pub returns : goal.returns
 unfolding book_refused_line
-returns g c = rw (← c.from-refusal.ensures, one_field (ascii "book refused ") c.from-refusal.result (omega (arith, c.from-refusal.type_inv))) c.writeln.ensures.bytes
+returns c = put_then (any_field c.ranges.refusal.fits c.field-a.ensures) c.end_line.ensures

@@ -1,8 +1,8 @@
 use Rattle.std.proofs.Common.{arith}
 use Rattle.text.specs.Lines.{opening_line}
-use Rattle.text.proofs.Sending.{list_shown}
+use Rattle.text.proofs.Putting.{put_more}
 use Rattle.text.proofs.lines.opening_line.Goals as goal
 
 pub returns : goal.returns
 unfolding opening_line
-returns g c = rw (list_shown _ c.args.owners.now (λ k. omega (arith, c.type_inv.owners k))) at c.list_line.ensures
+returns c = put_more c.agents_line.ensures (omega arith)

@@ -1,8 +1,9 @@
+-- The line's parts, one after the other.
 use Rattle.std.proofs.Common.{arith}
-use Rattle.text.specs.Lines.{prices_line}
-use Rattle.text.proofs.Sending.{list_shown}
+use Rattle.text.specs.Lines.{prices_line, list_line}
+use Rattle.text.proofs.Putting.{put_then, put_more}
 use Rattle.text.proofs.lines.prices_line.Goals as goal
 
 pub returns : goal.returns
-unfolding prices_line
-returns g c = rw (list_shown _ c.args.prices.now (λ k. omega (arith, c.type_inv.prices k))) at c.list_line.ensures
+unfolding prices_line list_line
+returns c = put_more (put_then (put_then c.word-a.ensures c.spaced_u32-b.ensures) c.end_line.ensures) (omega arith)

@@ -1,8 +1,8 @@
-use Rattle.text.specs.Text.{ascii}
+-- The line's parts, one after the other.
 use Rattle.text.specs.Lines.{total_line}
-use Rattle.text.proofs.Sending.{two_fields}
+use Rattle.text.proofs.Putting.{put_then, any_field}
 use Rattle.text.proofs.lines.total_line.Goals as goal
 
 pub returns : goal.returns
 unfolding total_line
-returns g c = rw (two_fields (ascii "total moves ") _ c.ranges.moves.fits (ascii " cuts ") _ c.ranges.cuts.fits) c.writeln.ensures.bytes
+returns c = put_then (put_then (any_field c.ranges.moves.fits c.field-a.ensures) (any_field c.ranges.cuts.fits c.field-b.ensures)) c.end_line.ensures

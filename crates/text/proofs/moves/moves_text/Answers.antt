@@ -1,13 +1,12 @@
-use Rattle.std.proofs.KnownBytes.{Appends-nil, Appends-trans}
-use Rattle.std.proofs.lemmas.List.{take_all}
-use Rattle.text.proofs.Moving.{lines_next, record_lines}
+use Rattle.std.proofs.Common.{arith}
+use Rattle.text.proofs.Moving.{moves_begin, moves_next, moves_end}
 use Rattle.text.proofs.moves.moves_text.Goals as goal
 
 pub loop-six-init : goal.loop-six-init
-loop-six-init g c = Appends-nil _
+loop-six-init c = moves_begin _
 
 pub loop-six-preserved : goal.loop-six-preserved
-loop-six-preserved g c = rw (lines_next _ _ c.loop-six-test.true) (Appends-trans _ _ _ _ _ c.loop-six.invariant c.in_ok-move_line.ensures)
+loop-six-preserved c = moves_next _ c.loop-six.invariant c.loop-six-test.true c.move_line-end.ensures (omega arith)
 
 pub returns : goal.returns
-returns g c = λ ms e. rw (take_all _ _ c.loop-six-test.false, c.as_chunks.ensures.front, record_lines _ ms e) at c.loop-six.invariant
+returns c = moves_end _ c.loop-six.invariant _ c.as_chunks.ensures.front (omega arith) c.loop-six-test.false

@@ -1,8 +1,6 @@
--- The lines of the moves so far are sent.
-use Rattle.std.proofs.Common.{take}
-use Rattle.std.specs.Io.KnownBytes.{Appends}
-use Rattle.text.proofs.Moving.{lines_of}
+-- The lines of the moves so far stand after the text.
+use Rattle.text.proofs.Moving.{Moved}
 use Rattle.text.proofs.moves.moves_text.Given as goal
 
 abbrev pub invariant-loop-six : goal.invariant-loop-six
-invariant-loop-six g l = Appends (g.W.Write.contents l.initial.to) (g.W.Write.contents l.to) (lines_of (take l.six-index l.moves))
+invariant-loop-six l = Moved l.moves l.initial.out l.at l.out l.end l.six-index

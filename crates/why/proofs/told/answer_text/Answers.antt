@@ -14,7 +14,7 @@ read (Ok x) e = refl
 read (Err refusal) e = absurd (omega (arith, e, numbered refusal))
 
 pub returns-in-Err : goal.returns-in-Err
-returns-in-Err g c = rw (refused_text _ _ c.args.number (c.requires.answered.turned_down _ c.in-Err.is)) c.refused_line.ensures
+returns-in-Err g c = rw (refused_text _ _ c.args.number (c.requires.answered.turned_down _ c.in-Err.is)) c.write_refused_line.ensures
 
 -- a sheet that was shared out breaks no rule, so it is read
 pub unwrap-sheet-requires : goal.unwrap-sheet-requires
