@@ -17,7 +17,7 @@ use model::Refusal;
 use sheet::valid::Sheet;
 
 // One chore for each bundle that costs `least`, in their order, while there are chores left: each of them is the cheapest when its turn comes.
-// Returns how many are left.
+// Returns how many are left. Whether any are is asked of such a bundle alone: of each one it was measured slower.
 fn deal_level(
     n: usize,
     weight: u32,

@@ -6,10 +6,7 @@ use mathlib.Core.Path.{◌≡◌, refl, ◌∙◌}
 use native.Mathlib.Omega.{arith}
 use lib.ListN.{length, take}
 use borrow.Author.Tests.{eqb-true}
-use Rattle.std.specs.Prelude.{Option, Result, OnOk}
-use Rattle.std.specs.Io.KnownBytes.{Keeps, Appends}
-use Rattle.std.proofs.KnownBytes.{Appends-kept}
-use Rattle.std.proofs.lemmas.Result.{on_ok_weaker}
+use Rattle.std.specs.Prelude.{Result}
 use Rattle.model.specs.declared.Refusal.{Refusal}
 use Rattle.model.specs.declared.ShareOut.{ShareOut}
 use Rattle.model.specs.Limits.{max_chores, scratch_size}
@@ -22,8 +19,6 @@ use Rattle.allocation.specs.Final.{final_of}
 use Rattle.allocation.proofs.Accepting.{sheet_decides}
 use Rattle.allocation.proofs.Final.{final_demand3}
 use Rattle.text.specs.Text.{joined}
-use Rattle.program.specs.declared.buffered.Buffered.{Buffered}
-use Rattle.program.specs.Buffered.{handed_on, held, HandsOn}
 use Rattle.pages.specs.Printer as pages
 use Rattle.pages.specs.Printer.{to_print, text_of, adds_of, sheet_text, tally_to, last_of}
 use Rattle.pages.specs.Answered.{Left, Answered}
@@ -60,9 +55,7 @@ whole_text book texts last e q =
       turned_down = printing.refused_text printer book texts last e q;
     }
 
--- so what is printed of a book, and flushed, is its text
-pub sent : {W T E : Type 0} (contents : W → Option (List ℕ)) (r : Result T E) (book : List ℕ) (old now new : Buffered W) → Appends (held contents old) (held contents now) (pages.book_text printer book) → Keeps (held contents now) (held contents new) → OnOk r (Keeps (held contents now) (handed_on contents new)) → OnOk r ((text : List ℕ) × Printed book text × HandsOn contents old new text)
+-- so what is printed of a book is its text
+pub printed : (book : List ℕ) → Printed book (pages.book_text printer book)
 unfolding pages.book_text
-sent contents r book old now new S kept =
-    let P = whole_text book (sheet_text printer book) (last_of printer book) (λ j l. refl) refl in
-    on_ok_weaker r (λ gone. (_, P, record { added = Appends-kept _ _ _ _ S kept; out = Appends-kept _ _ _ _ S gone }))
+printed book = whole_text book (sheet_text printer book) (last_of printer book) (λ j l. refl) refl

@@ -1,7 +1,7 @@
 -- A list of numbers that goes to a writer part by part.
 -- Assumes nothing.
 use Prim.Native.Nat.{ℕ}
-use mathlib.Core.List.{List, [], ◌∷◌, ◌++◌, append_assoc, append-nil}
+use mathlib.Core.List.{List, [], ◌∷◌, ◌++◌, append_assoc}
 use mathlib.Core.Path.{◌≡◌, refl, sym, ap, ◌∙◌}
 use lib.ListN.{take}
 use Rattle.std.specs.Prelude.{Option}
@@ -33,9 +33,6 @@ part_gone a b c part more G split P sent =
       whole = G.whole ∙ ap (λ l. G.gone ++ l) split ∙ sym (append_assoc G.gone part more);
       sent = rw (spaced_both G.gone part) (Appends-trans a b c (spaced G.gone) (spaced part) G.sent (rw P.made at sent));
     }
-
-pub all_gone : {a b : Option (List ℕ)} {xs rest : List ℕ} → Going a xs b rest → rest ≡ [] → Appends a b (spaced xs)
-all_gone G e = rw (G.whole, e, append-nil G.gone) G.sent
 
 -- a word, the numbers and the line's end
 pub line_gone : (a b c d : Option (List ℕ)) (word xs : List ℕ) → Appends a b word → Appends b c (spaced xs) → Appends c d newline → Appends a d (list_line word xs)

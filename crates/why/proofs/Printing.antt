@@ -3,10 +3,6 @@
 use Prim.Native.Nat.{ℕ, ◌<◌}
 use mathlib.Core.List.{List, ◌++◌}
 use mathlib.Core.Path.{◌≡◌, refl}
-use Rattle.std.specs.Prelude.{Option, Result, OnOk}
-use Rattle.std.specs.Io.KnownBytes.{Keeps, Appends}
-use Rattle.std.proofs.KnownBytes.{Appends-kept}
-use Rattle.std.proofs.lemmas.Result.{on_ok_weaker}
 use Rattle.model.specs.Contents.{sheet_of}
 use Rattle.model.specs.Algorithm.{State}
 use Rattle.model.specs.Record.{Move}
@@ -15,8 +11,6 @@ use Rattle.allocation.specs.Final.{final_of}
 use Rattle.allocation.proofs.Final.{final_demand3}
 use Rattle.recorded.specs.Moves.{moves_for}
 use Rattle.text.specs.Text.{joined}
-use Rattle.program.specs.declared.buffered.Buffered.{Buffered}
-use Rattle.program.specs.Buffered.{handed_on, held, HandsOn}
 use Rattle.pages.specs.Printer as pages
 use Rattle.pages.specs.Printer.{to_print, text_of, adds_of, sheet_text, tally_to, last_of}
 use Rattle.pages.proofs.Printing as printing
@@ -45,9 +39,7 @@ module _ (book : List ℕ) where
         turned_down = printing.refused_text printer book texts last e q;
       }
 
-  -- so what is printed of a book, and flushed, is its text
-  pub sent : {W T E : Type 0} (contents : W → Option (List ℕ)) (r : Result T E) (old now new : Buffered W) → Appends (held contents old) (held contents now) (pages.book_text printer book) → Keeps (held contents now) (held contents new) → OnOk r (Keeps (held contents now) (handed_on contents new)) → OnOk r ((text : List ℕ) × Printed book text × HandsOn contents old new text)
+  -- so what is printed of a book is its text
+  pub printed : Printed book (pages.book_text printer book)
   unfolding pages.book_text
-  sent contents r old now new S kept =
-      let P = whole_text (sheet_text printer book) (last_of printer book) (λ j l. refl) refl in
-      on_ok_weaker r (λ gone. (_, P, record { added = Appends-kept _ _ _ _ S kept; out = Appends-kept _ _ _ _ S gone }))
+  printed = whole_text (sheet_text printer book) (last_of printer book) (λ j l. refl) refl
